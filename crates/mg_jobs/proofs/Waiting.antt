@@ -121,11 +121,11 @@ follow_pended calls (stage.Open stream) c k last ticket at holds = some_if (stag
 follow_pended calls (stage.Closes closing) c k last ticket at holds = at.1
 follow_pended calls stage.Ended c k last ticket at holds = absurd cc
 
-get_pended : (s : GetStage) (bytes done k : ℕ) (last : Bool) (ticket : ℕ) → GetStageAt s bytes done k last → gets_ticket s ≡ Some ticket → last ≡ true
-get_pended gets.Unsent bytes done k last ticket at holds = absurd cc
-get_pended (gets.Opens opening) bytes done k last ticket at holds = some_if (gets_ticket (gets.Opens opening)) ticket last at.3 holds
-get_pended (gets.Reads download room) bytes done k last ticket at holds = some_if (gets_ticket (gets.Reads download room)) ticket last at.3 holds
-get_pended (gets.Ended e) bytes done k last ticket at holds = absurd cc
+get_pended : (s : GetStage) (bytes done k read : ℕ) (last : Bool) (ticket : ℕ) → GetStageAt s bytes done k last read → gets_ticket s ≡ Some ticket → last ≡ true
+get_pended gets.Unsent bytes done k read last ticket at holds = absurd cc
+get_pended (gets.Opens opening) bytes done k read last ticket at holds = some_if (gets_ticket (gets.Opens opening)) ticket last at.3 holds
+get_pended (gets.Reads download room) bytes done k read last ticket at holds = some_if (gets_ticket (gets.Reads download room)) ticket last at.3 holds
+get_pended (gets.Ended e) bytes done k read last ticket at holds = absurd cc
 
 put_pended : (calls : ℕ) (s : PutStage) (done count k : ℕ) (last : Bool) (ticket : ℕ) → PutAt calls s done count k last → puts_ticket s ≡ Some ticket → last ≡ true
 put_pended calls puts.Undrawn done count k last ticket at holds = absurd cc
@@ -137,7 +137,7 @@ pub job_pended : (calls : ℕ) (p : Player) (k : ℕ) (last : Bool) (ticket : �
 job_pended calls (player.Insert job) k last ticket at holds = insert_pended job.stage k last ticket at holds
 job_pended calls (player.Follow job) k last ticket at holds = follow_pended calls job.stage (came job) k last ticket at holds
 job_pended calls (player.Put job) k last ticket at holds = put_pended calls job.stage job.done (length job.what.pieces.now) k last ticket at holds
-job_pended calls (player.Get job) k last ticket at holds = get_pended job.stage (length job.bytes.items) job.done k last ticket at holds
+job_pended calls (player.Get job) k last ticket at holds = get_pended job.stage (length job.bytes.items) job.done k job.what.read last ticket at holds
 
 -- the call of its ticket is one that it sent
 pub record SentOwn (awaited : Awaited) (c : Course) (i ticket : ℕ) : Type 0 where

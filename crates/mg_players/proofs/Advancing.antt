@@ -1,8 +1,9 @@
 -- How far jobs come, turn by turn.
-use Rattle.std.proofs.Common.{◌≡◌, ◌+◌, ◌-◌, ◌<◌, ◌≤◌, ◌⊎◌, ℕ, zero, suc, Bool, true, false, cond, List, [], ◌∷◌, ◌++◌, Option, Some, None, Result, Ok, Err, refl, sym, ap, ◌∙◌, subst, inl, inr, length, take, arith}
+use Rattle.std.proofs.Common.{◌≡◌, ◌+◌, ◌-◌, ◌*◌, ◌<◌, ◌≤◌, ◌⊎◌, ℕ, zero, suc, Bool, true, false, cond, List, [], ◌∷◌, ◌++◌, Option, Some, None, Result, Ok, Err, refl, sym, ap, ◌∙◌, subst, inl, inr, length, take, arith, add-mul}
 use Rattle.std.specs.Prelude.{slice_get, slice_set, nat_eq, nat_lt, IfOk, IsSome, is_some, Vec}
 use Rattle.std.proofs.lemmas.Bool.{cases_eq, eq-eqb, ne_eqb, lt-ltb}
 use Rattle.std.proofs.lemmas.List.{length-map}
+use Rattle.std.proofs.lemmas.Nat.{mul-le}
 use Rattle.mg_link.specs.Acts.{PendsAfter}
 use Rattle.mg_link.specs.Causes.{RoseJust}
 use Rattle.mg_link.specs.declared.error.Error.{Error}
@@ -19,11 +20,11 @@ use Rattle.mg_change.specs.declared.opening.Opening.{Opening}
 use Rattle.mg_change.specs.declared.stream.ChangeStream.{ChangeStream}
 use Rattle.mg_players.specs.Counts.{RoseIf, one_if}
 use Rattle.mg_players.specs.Follows.{HasEnded, HasGiven, IsFailed, IsUnfinished}
-use Rattle.mg_players.specs.Gets.{KeepsRead, OpensAs, done_behind, get_end, gets_ended, gets_ticket}
+use Rattle.mg_players.specs.Gets.{KeepsRead, OpensAs, done_behind, get_end, gets_ended, gets_ticket, room_of}
 use Rattle.mg_players.specs.Headline.{DoTasks, OutcomeOf, OutcomesOf, task_of}
 use Rattle.mg_script.specs.Plan.{Task, task, tasks, pieces}
 use Rattle.mg_players.specs.Playing.{IsSameFollow, end_of, follow_ended, inserts_ended}
-use Rattle.mg_players.specs.Progress.{AllAt, AllPlayed, Came, CloseGoes, FollowAt, FollowGoes, FollowPlayed, GetEndedAt, GetGoes, GetPlayed, GetStageAt, GoesBy, InsertAt, InsertGoes, InsertPlayed, InsertReady, IsAt, IsFinished, IsPlayed, JobGoes, NotOpen, OpenPlayed, RestGoes, TurnsBy, calls_of, came, one_unless, pended_since, pends_last, turns_done, PutAt, PutPlayed}
+use Rattle.mg_players.specs.Progress.{AllAt, AllPlayed, Came, CloseGoes, FollowAt, FitsReads, FollowGoes, FollowPlayed, GetEndedAt, GetGoes, GetPlayed, GetStageAt, GoesBy, InsertAt, InsertGoes, InsertPlayed, InsertReady, IsAt, IsFinished, IsPlayed, JobGoes, NotOpen, OpenPlayed, RestGoes, TurnsBy, calls_of, came, one_unless, pended_since, pends_last, turns_done, PutAt, PutPlayed}
 use Rattle.mg_gridfs.specs.Uploads as uploads
 use Rattle.mg_gridfs.specs.UploadView.{upload_of}
 use Rattle.mg_players.specs.Puts.{IsPutDoing, put_end, puts_ended}
@@ -228,59 +229,87 @@ get_ended_on done k ended.Unfinished at = absurd at
 get_ended_on done k (ended.Gave x) at = (at.0, omega (arith, at.1))
 get_ended_on done k (ended.Failed e) at = omega (arith, at)
 
-get_stays : (bytes done k : ℕ) (last : Bool) (s : GetStage) → gets_ended s ≡ true → GetStageAt s bytes done k last → GetStageAt s bytes done (k + 1) false
-get_stays bytes done k last gets.Unsent over at = absurd cc
-get_stays bytes done k last (gets.Opens opening) over at = absurd cc
-get_stays bytes done k last (gets.Reads download room) over at = absurd cc
-get_stays bytes done k last (gets.Ended e) over at = (get_ended_on done k e at.0, at.1, refl)
+get_stays : (bytes done read k : ℕ) (last : Bool) (s : GetStage) → gets_ended s ≡ true → GetStageAt s bytes done k last read → GetStageAt s bytes done (k + 1) false read
+get_stays bytes done read k last gets.Unsent over at = absurd cc
+get_stays bytes done read k last (gets.Opens opening) over at = absurd cc
+get_stays bytes done read k last (gets.Reads download room) over at = absurd cc
+get_stays bytes done read k last (gets.Ended e) over at = (get_ended_on done k e at.0, at.1, refl, at.3)
 
-pub get_over : (before bytes done : ℕ) (e : Ended (Unit {0})) → GetGoes before before (gets.Ended e) bytes done (gets.Ended e) bytes done
-get_over before bytes done e = (false, refl, λ calls k last at. get_stays bytes done k last (gets.Ended e) refl at)
+pub get_over : (before bytes done read : ℕ) (e : Ended (Unit {0})) → GetGoes before before (gets.Ended e) bytes done (gets.Ended e) bytes done read
+get_over before bytes done read e = (false, refl, λ calls k last at. get_stays bytes done read k last (gets.Ended e) refl at)
+
+-- without bytes it fits whatever it had room for
+pub fits_none : (bytes done read : ℕ) → bytes ≡ 0 → FitsReads bytes done read
+fits_none bytes done read none = subst (λ (n : ℕ). n ≤ (done - 1) * room_of read) (sym none) (omega arith)
+
+-- so it does with as many more bytes as one more read has room for
+within_more : (bytes more done room : ℕ) → more ≤ room → 1 ≤ done → bytes ≤ (done - 1) * room → bytes + more ≤ (done + 1 - 1) * room
+within_more bytes more done room few some fits =
+    let next : done + 1 - 1 ≡ done - 1 + 1 = omega (arith, some) in
+    let parts : (done + 1 - 1) * room ≡ (done - 1) * room + 1 * room = ap (λ (n : ℕ). n * room) next ∙ add-mul (done - 1) 1 room in
+    let one : 1 * room ≡ room = omega arith in
+    omega (arith, few, fits, parts, one)
+
+fits_more : (bytes more done read : ℕ) → more ≤ room_of read → 1 ≤ done → FitsReads bytes done read → FitsReads (bytes + more) (done + 1) read
+fits_more bytes more done read few some fits = within_more bytes more done (room_of read) few some fits
+
+-- and behind more calls
+within_later : (bytes done k room : ℕ) → done ≤ k → bytes ≤ (done - 1) * room → bytes ≤ (k - 1) * room
+within_later bytes done k room less fits = let more = mul-le (done - 1) room (k - 1) room (omega (arith, less)) (omega arith) in omega (arith, fits, more)
+
+fits_later : (bytes done k read : ℕ) → done ≤ k → FitsReads bytes done read → FitsReads bytes k read
+fits_later bytes done k read less fits = within_later bytes done k (room_of read) less fits
+
+-- and where nothing was given and no call went on
+fits_still : (before after done done' read : ℕ) → after ≡ before → done' ≡ done → FitsReads before done read → FitsReads after done' read
+fits_still before after done done' read same on fits = subst (λ (n : ℕ). FitsReads n done' read) (sym same) (subst (λ (n : ℕ). FitsReads before n read) (sym on) fits)
 
 -- behind its opening
-pub get_opened_at : (download : GridFsDownloadStream) (s : GetStage) (bytes done done' k : ℕ) → OpensAs download s → gets_ticket s ≡ None → done ≡ 0 → done' ≡ done_behind s done → k ≡ 0 → GetStageAt s bytes done' (k + 1) false
-get_opened_at download gets.Unsent bytes done done' k opens none first on at = absurd opens
-get_opened_at download (gets.Opens opening) bytes done done' k opens none first on at = absurd opens
-get_opened_at download (gets.Reads d room) bytes done done' k opens none first on at = (omega (arith, first, on, at), omega (arith, first, on), omega (arith, first, on), ap (λ o. is_some o) none)
-get_opened_at download (gets.Ended ended.Unfinished) bytes done done' k opens none first on at = absurd opens
-get_opened_at download (gets.Ended (ended.Gave x)) bytes done done' k opens none first on at = absurd opens
-get_opened_at download (gets.Ended (ended.Failed e)) bytes done done' k opens none first on at = (omega (arith, first, on), omega (arith, first, on), refl)
+pub get_opened_at : (download : GridFsDownloadStream) (s : GetStage) (bytes done done' k read : ℕ) → OpensAs download s → gets_ticket s ≡ None → done ≡ 0 → done' ≡ done_behind s done → k ≡ 0 → bytes ≡ 0 → GetStageAt s bytes done' (k + 1) false read
+get_opened_at download gets.Unsent bytes done done' k read opens none first on at empty = absurd opens
+get_opened_at download (gets.Opens opening) bytes done done' k read opens none first on at empty = absurd opens
+get_opened_at download (gets.Reads d room) bytes done done' k read opens none first on at empty =
+    (omega (arith, first, on, at), omega (arith, first, on), omega (arith, first, on), ap (λ o. is_some o) none, fits_none bytes done' read empty)
+get_opened_at download (gets.Ended ended.Unfinished) bytes done done' k read opens none first on at empty = absurd opens
+get_opened_at download (gets.Ended (ended.Gave x)) bytes done done' k read opens none first on at empty = absurd opens
+get_opened_at download (gets.Ended (ended.Failed e)) bytes done done' k read opens none first on at empty = (omega (arith, first, on), omega (arith, first, on), refl, fits_none bytes done' read empty)
 
 -- behind a read of so many bytes, which stand behind those before
-pub get_kept_at : (download : GridFsDownloadStream) (room : Vec ℕ Global) (count : ℕ) (before after : List ℕ) (s : GetStage) (done done' k : ℕ) → KeepsRead download room count before after s → (0 < count → length (before ++ take count room.items) ≡ length before + count) → gets_ticket s ≡ None → done' ≡ done_behind s done → k ≡ done → 1 ≤ done → done ≤ length before + 1
-    → GetStageAt s (length after) done' (k + 1) false
-get_kept_at download room count before after gets.Unsent done done' k keeps longer none on at some few = absurd keeps
-get_kept_at download room count before after (gets.Opens opening) done done' k keeps longer none on at some few = absurd keeps
-get_kept_at download room count before after (gets.Reads d r) done done' k keeps longer none on at some few =
+pub get_kept_at : (download : GridFsDownloadStream) (room : Vec ℕ Global) (count : ℕ) (before after : List ℕ) (s : GetStage) (done done' k read : ℕ) → KeepsRead download room count before after s → (0 < count → length (before ++ take count room.items) ≡ length before + count) → gets_ticket s ≡ None → done' ≡ done_behind s done → k ≡ done → 1 ≤ done → done ≤ length before + 1
+    → count ≤ room_of read → FitsReads (length before) done read → GetStageAt s (length after) done' (k + 1) false read
+get_kept_at download room count before after gets.Unsent done done' k read keeps longer none on at some few small fits = absurd keeps
+get_kept_at download room count before after (gets.Opens opening) done done' k read keeps longer none on at some few small fits = absurd keeps
+get_kept_at download room count before after (gets.Reads d r) done done' k read keeps longer none on at some few small fits =
     let more = keeps.0 in
     let long : length after ≡ length before + count = ap (λ (l : List ℕ). length l) keeps.3 ∙ longer more in
-    (omega (arith, on, at), omega (arith, on), omega (arith, on, few, long, more), ap (λ o. is_some o) none)
-get_kept_at download room count before after (gets.Ended ended.Unfinished) done done' k keeps longer none on at some few = absurd keeps.1
-get_kept_at download room count before after (gets.Ended (ended.Gave x)) done done' k keeps longer none on at some few =
+    let fits_on : FitsReads (length after) done' read = subst (λ (n : ℕ). FitsReads n done' read) (sym long) (subst (λ (n : ℕ). FitsReads (length before + count) n read) (sym on) (fits_more (length before) count done read small some fits)) in
+    (omega (arith, on, at), omega (arith, on), omega (arith, on, few, long, more), ap (λ o. is_some o) none, fits_on)
+get_kept_at download room count before after (gets.Ended ended.Unfinished) done done' k read keeps longer none on at some few small fits = absurd keeps.1
+get_kept_at download room count before after (gets.Ended (ended.Gave x)) done done' k read keeps longer none on at some few small fits =
     let same : length after ≡ length before = ap (λ (l : List ℕ). length l) keeps.0 in
-    ((omega (arith, on, some), omega (arith, on, at)), omega (arith, on, few, same), refl)
-get_kept_at download room count before after (gets.Ended (ended.Failed e)) done done' k keeps longer none on at some few =
+    ((omega (arith, on, some), omega (arith, on, at)), omega (arith, on, few, same), refl, fits_still (length before) (length after) done done' read same on fits)
+get_kept_at download room count before after (gets.Ended (ended.Failed e)) done done' k read keeps longer none on at some few small fits =
     let same : length after ≡ length before = ap (λ (l : List ℕ). length l) keeps.0 in
-    (omega (arith, on, at), omega (arith, on, few, same), refl)
+    (omega (arith, on, at), omega (arith, on, few, same), refl, fits_still (length before) (length after) done done' read same on fits)
 
 -- it fails where it stood
-pub get_fails_at : (bytes done k : ℕ) (e : Error) → k ≡ done → done ≤ bytes + 1 → GetStageAt (gets.Ended (ended.Failed e)) bytes done (k + 1) false
-get_fails_at bytes done k e at few = (omega (arith, at), few, refl)
+pub get_fails_at : (bytes done k read : ℕ) (e : Error) → k ≡ done → done ≤ bytes + 1 → FitsReads bytes done read → GetStageAt (gets.Ended (ended.Failed e)) bytes done (k + 1) false read
+get_fails_at bytes done k read e at few fits = (omega (arith, at), few, refl, fits)
 
 -- it goes on from one stage to another by a poll that pended, or to its end by one that did not
-pub get_waits : (before now : ℕ) (s s' : GetStage) (bytes done : ℕ) → RoseJust 1 before now → ((k : ℕ) (last : Bool) → GetStageAt s bytes done k last → GetStageAt s' bytes done k true) → GetGoes before now s bytes done s' bytes done
-get_waits before now s s' bytes done rose so = (true, rose, λ calls k last at. subst (λ n. GetStageAt s' bytes done n true) (omega arith) (so k last at))
+pub get_waits : (before now : ℕ) (s s' : GetStage) (bytes done read : ℕ) → RoseJust 1 before now → ((k : ℕ) (last : Bool) → GetStageAt s bytes done k last read → GetStageAt s' bytes done k true read) → GetGoes before now s bytes done s' bytes done read
+get_waits before now s s' bytes done read rose so = (true, rose, λ calls k last at. subst (λ n. GetStageAt s' bytes done n true read) (omega arith) (so k last at))
 
-pub get_rests : (before now : ℕ) (s s' : GetStage) (bytes done bytes' done' : ℕ) → now ≡ before → ((k : ℕ) (last : Bool) → GetStageAt s bytes done k last → GetStageAt s' bytes' done' (k + 1) false) → GetGoes before now s bytes done s' bytes' done'
-get_rests before now s s' bytes done bytes' done' same so = (false, same, λ calls k last at. so k last at)
+pub get_rests : (before now : ℕ) (s s' : GetStage) (bytes done bytes' done' read : ℕ) → now ≡ before → ((k : ℕ) (last : Bool) → GetStageAt s bytes done k last read → GetStageAt s' bytes' done' (k + 1) false read) → GetGoes before now s bytes done s' bytes' done' read
+get_rests before now s s' bytes done bytes' done' read same so = (false, same, λ calls k last at. so k last at)
 
 -- A new opening goes on from where nothing was asked for.
-pub get_begins : (before now : ℕ) (opening : OpenDownloadStream) (s : GetStage) (bytes done bytes' done' : ℕ) → gets_ticket (gets.Opens opening) ≡ None → GetGoes before now (gets.Opens opening) bytes done s bytes' done' → GetGoes before now gets.Unsent bytes done s bytes' done'
-get_begins before now opening s bytes done bytes' done' none goes = (goes.0, goes.1, λ calls k last at. goes.2 calls k last (at.0, at.1, at.2, ap (λ o. is_some o) none ∙ sym at.3))
+pub get_begins : (before now : ℕ) (opening : OpenDownloadStream) (s : GetStage) (bytes done bytes' done' read : ℕ) → gets_ticket (gets.Opens opening) ≡ None → GetGoes before now (gets.Opens opening) bytes done s bytes' done' read → GetGoes before now gets.Unsent bytes done s bytes' done' read
+get_begins before now opening s bytes done bytes' done' read none goes = (goes.0, goes.1, λ calls k last at. goes.2 calls k last (at.0, at.1, at.2, ap (λ o. is_some o) none ∙ sym at.3))
 
 -- It fails there.
-pub get_fails_first : (before bytes done : ℕ) (e : Error) → GetGoes before before gets.Unsent bytes done (gets.Ended (ended.Failed e)) bytes done
-get_fails_first before bytes done e = (false, refl, λ calls k last at. get_fails_at bytes done k e (at.0 ∙ sym at.1) (let first = at.1 in omega (arith, first)))
+pub get_fails_first : (before bytes done read : ℕ) (e : Error) → GetGoes before before gets.Unsent bytes done (gets.Ended (ended.Failed e)) bytes done read
+get_fails_first before bytes done read e = (false, refl, λ calls k last at. get_fails_at bytes done k read e (at.0 ∙ sym at.1) (let first = at.1 in omega (arith, first)) (fits_none bytes done read at.2))
 
 -- ---- a job
 
@@ -304,7 +333,7 @@ pub over_turns : (p : Player) → has_ended p ≡ true → TurnsBy idle p p
 over_turns (player.Insert job) over calls k last at = insert_stays k last job.stage over at
 over_turns (player.Follow job) over calls k last at = follow_stays calls k last job.stage (came job) over at
 over_turns (player.Put job) over calls k last at = put_stays calls k last job.stage job.done (length job.what.pieces.now) over at
-over_turns (player.Get job) over calls k last at = get_stays (length job.bytes.items) job.done k last job.stage over at
+over_turns (player.Get job) over calls k last at = get_stays (length job.bytes.items) job.done job.what.read k last job.stage over at
 
 counted_so : (pended : Bool) (now : ℕ) → RoseIf pended 0 now → (nat_lt 0 now ≡ pended) × (now ≡ one_if pended)
 counted_so true now h = let some = h.0 in let one = h.1 in (lt-ltb 0 now (omega (arith, some)), omega (arith, some, one))
@@ -423,17 +452,17 @@ follow_played calls k last stage.Ended c at =
       | inr closed ↦ given_so c.opened c.closed calls c.answered c.alive k last closed.opened (closed_so c.closed calls c.answered k last closed.closed (closed.answered, closed.all, at.1))
     ]
 
-get_played : (bytes done k : ℕ) (last : Bool) (s : GetStage) → GetStageAt s bytes done k last → GetPlayed (get_end s) bytes k last
-get_played bytes done k last gets.Unsent at = let none = at.0 in (omega (arith, none), λ zero. at.2)
-get_played bytes done k last (gets.Opens opening) at = let none = at.0 in (omega (arith, none), λ zero. at.2)
-get_played bytes done k last (gets.Reads download room) at =
+get_played : (bytes done k read : ℕ) (last : Bool) (s : GetStage) → GetStageAt s bytes done k last read → GetPlayed (get_end s) bytes k last read
+get_played bytes done k read last gets.Unsent at = let none = at.0 in (omega (arith, none), λ zero. at.2, fits_none bytes k read at.2)
+get_played bytes done k read last (gets.Opens opening) at = let none = at.0 in (omega (arith, none), λ zero. at.2, fits_none bytes k read at.2)
+get_played bytes done k read last (gets.Reads download room) at =
     let same = at.0 in
     let some = at.1 in
     let few = at.2 in
-    (omega (arith, same, few), λ none. absurd (omega (arith, same, some, none)))
-get_played bytes done k last (gets.Ended ended.Unfinished) at = absurd at.0
-get_played bytes done k last (gets.Ended (ended.Gave x)) at = let some = at.0.0 in let more = at.0.1 in (omega (arith, some, more), at.2)
-get_played bytes done k last (gets.Ended (ended.Failed e)) at = let more = at.0 in (omega (arith, more), at.2)
+    (omega (arith, same, few), λ none. absurd (omega (arith, same, some, none)), subst (λ (n : ℕ). FitsReads bytes n read) (sym same) at.4)
+get_played bytes done k read last (gets.Ended ended.Unfinished) at = absurd at.0
+get_played bytes done k read last (gets.Ended (ended.Gave x)) at = let some = at.0.0 in let more = at.0.1 in (omega (arith, some, more), at.2, fits_later bytes done k read (omega (arith, more)) at.3)
+get_played bytes done k read last (gets.Ended (ended.Failed e)) at = let more = at.0 in (omega (arith, more), at.2, fits_later bytes done k read (omega (arith, more)) at.3)
 
 put_going : (doing : uploads.Doing) (done count : ℕ) → IsPutDoing doing done count → done ≤ count
 put_going uploads.idle done count is = is
@@ -454,7 +483,7 @@ played_at : (p : Player) (r : Outcome) (k : ℕ) (last : Bool) → OutcomeOf p r
 played_at (player.Insert job) r k last of at = subst (λ (x : Outcome). IsPlayed (task_of (player.Insert job)) k last x) (sym of) (insert_played k last job.stage at)
 played_at (player.Follow job) r k last of at = subst (λ (x : Outcome). IsPlayed (task_of (player.Follow job)) k last x) (sym of) (follow_played job.watched.calls k last job.stage (came job) at)
 played_at (player.Put job) r k last of at = subst (λ (x : Outcome). IsPlayed (task_of (player.Put job)) k last x) (sym of) (put_played (length (pieces job.what.pieces.now)) k last job.stage job.done (length job.what.pieces.now) at)
-played_at (player.Get job) r k last of at = subst (λ (x : Outcome). IsPlayed (task_of (player.Get job)) k last x) (sym of) (get_played (length job.bytes.items) job.done k last job.stage at)
+played_at (player.Get job) r k last of at = subst (λ (x : Outcome). IsPlayed (task_of (player.Get job)) k last x) (sym of) (get_played (length job.bytes.items) job.done k job.what.read last job.stage at)
 
 -- where each job is by its turns says what became of it
 pub all_played : (ts : List Task) (order : List ℕ) (players : List Player) (notes : List Turned) (outcomes : List Outcome) → length outcomes ≡ length players → DoTasks ts players → AllAt ts order notes players → OutcomesOf players outcomes → AllPlayed ts order notes outcomes

@@ -26,7 +26,7 @@ use Rattle.mg_players.specs.Playing.{IsLast}
 use Rattle.mg_players.specs.Telling.{landing_places}
 
 -- nothing is sent
-tried_still : (at : ℕ → Fields → Type 0) (log log' : LogTold) (n m : ℕ) → log' ≡ log → m ≤ n → Tried at log log' n m
+pub tried_still : (at : ℕ → Fields → Type 0) (log log' : LogTold) (n m : ℕ) → log' ≡ log → m ≤ n → Tried at log log' n m
 tried_still at log log' n m same less = subst (λ (l : LogTold). Tried at log l n m) (sym same) (tried_below at log log n n m less (tried_none at log n))
 
 -- how many are left behind a poll of an opening

@@ -1,8 +1,10 @@
 -- What became of a get, by what it tells.
-use Rattle.std.proofs.Common.{◌≡◌, ◌≤◌, ◌++◌, ◌∷◌, [], ℕ, zero, suc, ℤ, false, true, List, length, Option, Some, None, refl, sym, ap, ◌∙◌, subst, inl, inr, arith}
+use Rattle.std.proofs.Common.{◌≡◌, ◌≤◌, ◌+◌, ◌-◌, ◌*◌, ◌++◌, ◌∷◌, [], ℕ, zero, suc, ℤ, false, true, List, length, Option, Some, None, refl, sym, ap, ◌∙◌, subst, inl, inr, arith}
 use Rattle.std.specs.List.{concat}
 use Rattle.std.specs.Prelude.{IsSome, slice_get}
 use Rattle.mg_link.specs.Calls.{HeardBy, IsAwaited, Past}
+use Rattle.mg_link.specs.Exec as exec
+use Rattle.mg_link.specs.Exec.{Stage}
 use Rattle.mg_link.specs.Link.{Awaited}
 use Rattle.mg_link.specs.Log.{Call, reply}
 use Rattle.mg_link.specs.Owner.{IsOf}
@@ -12,6 +14,7 @@ use Rattle.mg_options.specs.Fields.{Line, fields_in}
 use Rattle.mg_bson.specs.Tree.{Fields, Tree}
 use Rattle.mg_link.specs.Session.{Session}
 use Rattle.mg_ops.specs.Cursors.{Manner, next_command}
+use Rattle.mg_change.specs.Sent.{resuming_places}
 use Rattle.mg_cursor.specs.Causes.{UnderwayBy}
 use Rattle.mg_cursor.specs.Client as client
 use Rattle.mg_cursor.specs.Client.{ClientCursor, get_more}
@@ -28,14 +31,15 @@ use Rattle.mg_gridfs.specs.ReadCauses.{HeardRecord, IsOpening, LookingUnderway, 
 use Rattle.mg_script.specs.declared.outcome.Ended.{Ended}
 use Rattle.mg_script.specs.declared.outcome.Ended.TheVariants as ended
 use Rattle.mg_players.specs.Causes as causes
-use Rattle.mg_players.specs.Causes.{AllSentIn, AreSentIn, Course, GetCaused, GetFails, GetOpened, GetSent, GetStands, GetWaits, places_of, sent_at}
-use Rattle.mg_players.specs.Gets.{GetTask, IsOpeningFor, get_bucket, get_end, more_chunks, no_manner}
+use Rattle.mg_players.specs.Causes.{AllSentIn, AreSentIn, AskForMore, Course, FallsAt, OpeningAsks, GetCaused, GetFails, GetOpened, GetSent, GetStands, GetWaits, places_of, sent_at}
+use Rattle.mg_players.specs.Gets.{GetTask, IsFindAt, IsOpeningFor, get_bucket, get_end, more_chunks, no_manner, room_of}
 use Rattle.mg_players.specs.Plays.{Places, all_places}
-use Rattle.mg_players.specs.Progress.{GetEndedAt, GetStageAt, pends_last}
+use Rattle.mg_players.specs.Progress.{FitsReads, GetEndedAt, GetStageAt, pends_last, turns_done}
 use Rattle.mg_players.specs.Telling as tells
-use Rattle.mg_players.specs.Telling.{AllSent, GetTells, TellsGetEnd, TellsGetFails, TellsGetOpened, TellsNoCall}
+use Rattle.mg_players.specs.Telling.{AllSent, GetTells, TellsAsked, TellsGetEnd, TellsGetFails, TellsGetOpened, TellsNoCall, finding_places, found_in}
 use Rattle.mg_players.specs.declared.get.GetStage.{GetStage}
 use Rattle.mg_players.specs.declared.get.GetStage.TheVariants as gets
+use Rattle.mg_players.proofs.Commands.{falls_below, falls_none}
 use Rattle.mg_players.proofs.GetSending.{found_same, listed_same}
 use Rattle.mg_players.proofs.Whole.{only_now}
 use Rattle.mg_players.proofs.Telling.{in_either}
@@ -46,6 +50,17 @@ pub heard_same : (past : Past) (g : GetTask) (b : ClientBucket) (id : Tree) (fou
 heard_same past g b id found is h = record { bytes = h.bytes; heard = subst (λ (lines : List Line). HeardBy past (fields_in lines) (reply h.bytes)) (found_same g b id is) h.heard; success = h.success; reads_so = h.reads_so }
 
 -- ---- all that it sent
+
+-- an opening may ask once more
+some_left : (stage : Stage) → 1 ≤ resuming_places stage
+some_left exec.unsent = omega arith
+some_left (exec.first ticket) = omega arith
+some_left (exec.second ticket) = omega arith
+
+pub places_left : (doing : Looking) → 1 ≤ finding_places doing
+places_left findings.starts = omega arith
+places_left (findings.finds sending) = omega arith
+places_left (findings.lists file count sending) = some_left sending.stage
 
 concat_of : (owns : List (List ℕ)) (place : ℕ) → IsOf (concat owns) place → (k : ℕ) × (own : List ℕ) × (slice_get owns k ≡ Some own) × IsOf own place
 concat_of [] place of = absurd of
@@ -70,45 +85,78 @@ above : (n : ℕ) → 1 ≤ n → (k : ℕ) × (n ≡ suc k)
 above zero some = absurd (omega (arith, some))
 above (suc n) some = (n, refl)
 
+-- without a call it gave nothing
+none_given : (bytes done room : ℕ) → done ≡ 0 → bytes ≤ (done - 1) * room → bytes ≡ 0
+none_given bytes done room first fits =
+    let less : done - 1 ≡ 0 = omega (arith, first) in
+    let at : bytes ≤ 0 * room = subst (λ (n : ℕ). bytes ≤ n * room) less fits in
+    let none : 0 * room ≡ 0 = omega arith in
+    omega (arith, at, none)
+
 module _ (c : Course) (i : ℕ) (calls : List Call) (wire : ℤ) (q : Places) (g : GetTask) (done : ℕ) (sent : AllSent c i q done) where
   abbrev get_opened : (f : FileRecord) (at : Option ℕ) → TellsGetOpened calls wire q g f at → GetOpened c i calls wire g f
-  get_opened f at t = record { places = q.opened; sent = sent.opened; heard = t.heard }
+  get_opened f at t = record { places = q.opened; sent = sent.opened; heard = t.heard; finds = t.finds }
 
   -- without a call its turns sent what goes on alone
   alone : TellsNoCall q → q.now ≡ places_of c i
   alone none = sym (only_now q none.0 none.1) ∙ sent.whole
 
-  unopened_so : TellsNoCall q → done ≡ 0 → GetStands c i calls wire g
-  unopened_so none first = causes.unopened (subst (AllSentIn c i 0) (alone none) (subst (λ (n : ℕ). AllSentIn c i n q.now) first sent.now))
+  unopened_so : (bytes : ℕ) → bytes ≡ 0 → TellsNoCall q → done ≡ 0 → (found : Option FileRecord) → OpeningAsks calls wire g found q.now → GetStands c i calls wire g bytes
+  unopened_so bytes empty none first found asks = causes.unopened empty (subst (AllSentIn c i 0) (alone none) (subst (λ (n : ℕ). AllSentIn c i n q.now) first sent.now)) found (subst (OpeningAsks calls wire g found) (alone none) asks)
 
-  -- with so many, these
-  all_sent : (k : ℕ) → done ≡ suc k → suc (length q.owns) ≡ done → GetSent c i q.opened k q.now
-  all_sent k is counted = record {
-    owns = q.owns;
-    counted = omega (arith, is, counted);
-    sent_each = sent.owns;
-    sent_now = subst (λ (m : ℕ). AllSentIn c i m q.now) is sent.now;
-    whole = sent.whole;
-  }
+  -- behind so many calls that gave so many bytes
+  module _ (bytes : ℕ) (few : done ≤ bytes + 1) (fits : FitsReads bytes done g.read) where
+    -- its turns sent these
+    all_sent : (k : ℕ) → done ≡ suc k → suc (length q.owns) ≡ done → AskForMore calls (concat q.owns ++ q.now) → GetSent c i calls g bytes q.opened k q.now
+    all_sent k is counted more = record {
+      owns = q.owns;
+      counted = omega (arith, is, counted);
+      sent_each = sent.owns;
+      sent_now = subst (λ (m : ℕ). AllSentIn c i m q.now) is sent.now;
+      whole = sent.whole;
+      more = more;
+      gave = (omega (arith, is, few), (let one : done - 1 ≡ k = omega (arith, is) in subst (λ (n : ℕ). bytes ≤ n * room_of g.read) one fits));
+    }
 
-  get_fails : (e : Error) → TellsGetFails calls wire q g done e → GetFails c i calls wire g e
-  get_fails e (tells.out_of_memory room) = causes.out_of_memory room
-  get_fails e (tells.has_no_room none is) = causes.has_no_room none is
-  get_fails e (tells.not_opened some silent first fails) = causes.not_opened some q.now (subst (λ (n : ℕ). AllSentIn c i n q.now) first sent.now) fails (alone silent)
-  get_fails e (tells.not_read some more d at opened cursor fails its sound plain counted listed of why) =
-      let n = above done more in
-      causes.not_read some d (get_opened d.file at opened) n.0 q.now (subst (λ (m : ℕ). AllSentIn c i m q.now) n.1 sent.now) cursor fails its sound plain (all_sent n.0 n.1 counted)
-      (record { places = all_places q; sent = all_own c i q done sent; listed = listed; by_opening = sent.opened listed of; why = why })
+    -- all of it
+    asked_so : TellsAsked calls wire q g done → GetStands c i calls wire g bytes
+    asked_so (tells.in_opening silent first found asks) = unopened_so bytes (none_given bytes done (room_of g.read) first fits) silent first found asks
+    asked_so (tells.behind_it f at opened counted) = causes.has_opened f (get_opened f at opened) (length q.owns) q.now (all_sent (length q.owns) (sym counted) counted opened.more)
 
-  get_end_caused : (awaited : Awaited) (end : Ended (Unit {0})) (at : Option ℕ) → (end ≡ ended.Unfinished → ⊥) → TellsGetEnd calls wire q g done at end → GetCaused awaited c i calls wire g end
-  get_end_caused awaited ended.Unfinished at over t = absurd (over refl)
-  get_end_caused awaited (ended.Gave x) at over t = (t.0, t.1, get_opened t.1 at t.2, length q.owns, q.now, all_sent (length q.owns) (sym t.3) t.3)
-  get_end_caused awaited (ended.Failed e) at over t = get_fails e t
+    get_fails : (e : Error) → done + 1 ≤ turns_done i c.order c.notes → TellsGetFails calls wire q g done e → GetFails c i calls wire g bytes e
+    get_fails e turned (tells.out_of_memory room) = causes.out_of_memory room
+    get_fails e turned (tells.has_no_room none is) = causes.has_no_room none is
+    get_fails e turned (tells.not_opened some silent first fails) = causes.not_opened some q.now (subst (λ (n : ℕ). AllSentIn c i n q.now) first sent.now) fails (alone silent)
+    get_fails e turned (tells.not_read some more d at opened cursor fails its sound plain counted listed of why) =
+        let n = above done more in
+        causes.not_read some d (get_opened d.file at opened) n.0 (let is = n.1 in omega (arith, turned, is)) q.now (subst (λ (m : ℕ). AllSentIn c i m q.now) n.1 sent.now) cursor fails its sound plain (all_sent n.0 n.1 counted opened.more)
+        (record { places = all_places q; sent = all_own c i q done sent; listed = listed; by_opening = sent.opened listed of; why = why })
+
+    get_end_caused : (awaited : Awaited) (end : Ended (Unit {0})) (at : Option ℕ) → GetEndedAt end done (turns_done i c.order c.notes) → TellsGetEnd calls wire q g done at end → GetCaused awaited c i calls wire g bytes end
+    get_end_caused awaited ended.Unfinished at turned t = absurd turned
+    get_end_caused awaited (ended.Gave x) at turned t =
+        let counted = t.3 in
+        let many = turned.1 in
+        (t.0, t.1, get_opened t.1 at t.2, length q.owns, omega (arith, counted, many), q.now, all_sent (length q.owns) (sym t.3) t.3 t.2.more)
+    get_end_caused awaited (ended.Failed e) at turned t = (get_fails e turned t.0, asked_so t.1)
+
+-- ---- what it heard
+
+module _ (past : Past) (g : GetTask) where
+  looking_heard : (awaited : Awaited) (b : ClientBucket) (id : Tree) (doing : Looking) → id ≡ g.id → IsPlainAt b g.at → LookingUnderway awaited past b id doing → (f : FileRecord) → found_in doing ≡ Some f → HeardRecord past (get_bucket g.at) g.id (Some f)
+  looking_heard awaited b id findings.starts same is h f found = let bad : None ≡ Some f = found in absurd cc
+  looking_heard awaited b id (findings.finds sending) same is h f found = let bad : None ≡ Some f = found in absurd cc
+  looking_heard awaited b id (findings.lists file count sending) same is h f found =
+      subst (HeardRecord past (get_bucket g.at) g.id) found (subst (λ (x : Tree). HeardRecord past (get_bucket g.at) x (Some file)) same (heard_same past g b id (Some file) is h.1))
+
+  opening_heard : (awaited : Awaited) (o : ClientFinding) (bucket : Option ClientBucket) → o.bucket ≡ bucket → IsOpeningFor g o → IsSoundFinding o → IsOpening awaited past o → (f : FileRecord) → found_in o.doing ≡ Some f → HeardRecord past (get_bucket g.at) g.id (Some f)
+  opening_heard awaited o None is aim sound h f found = let bad : None ≡ Some f = sym (ap found_in (sound.none is)) ∙ found in absurd cc
+  opening_heard awaited o (Some b) is aim sound h f found = looking_heard awaited b o.id o.doing aim.id_is (aim.placed b is) (h b is) f found
 
 -- ---- what it waits for
 
-module _ (awaited : Awaited) (c : Course) (i : ℕ) (calls : List Call) (wire : ℤ) (q : Places) (g : GetTask) where
-  looking_waits : (b : ClientBucket) (id : Tree) (doing : Looking) → AllSentIn c i 0 q.now → q.now ≡ places_of c i → id ≡ g.id → IsPlainAt b g.at → IsSome (findings.ticket_by doing) → LookingUnderway awaited (sent_at q.now calls wire) b id doing → GetWaits awaited c i calls wire g
+module _ (awaited : Awaited) (c : Course) (i : ℕ) (calls : List Call) (wire : ℤ) (q : Places) (g : GetTask) (bytes : ℕ) where
+  looking_waits : (b : ClientBucket) (id : Tree) (doing : Looking) → AllSentIn c i 0 q.now → q.now ≡ places_of c i → id ≡ g.id → IsPlainAt b g.at → IsSome (findings.ticket_by doing) → LookingUnderway awaited (sent_at q.now calls wire) b id doing → GetWaits awaited c i calls wire g bytes
   looking_waits b id findings.starts sent whole same is held h = none_held held
   looking_waits b id (findings.finds sending) sent whole same is held h =
       causes.for_record q.now sent
@@ -142,27 +190,27 @@ module _ (awaited : Awaited) (past : Past) where
 none_waits : (doing : Looking) → doing ≡ findings.starts → IsSome (findings.ticket_by doing) → ⊥
 none_waits doing is held = none_held (subst (λ (x : Looking). IsSome (findings.ticket_by x)) is held)
 
-module _ (awaited : Awaited) (c : Course) (i : ℕ) (calls : List Call) (wire : ℤ) (q : Places) (g : GetTask) where
-  opening_waits : (o : ClientFinding) (bucket : Option ClientBucket) → o.bucket ≡ bucket → AllSentIn c i 0 q.now → q.now ≡ places_of c i → IsOpeningFor g o → IsSoundFinding o → IsOpening awaited (sent_at q.now calls wire) o → IsSome (findings.finding_ticket o) → GetWaits awaited c i calls wire g
+module _ (awaited : Awaited) (c : Course) (i : ℕ) (calls : List Call) (wire : ℤ) (q : Places) (g : GetTask) (bytes : ℕ) where
+  opening_waits : (o : ClientFinding) (bucket : Option ClientBucket) → o.bucket ≡ bucket → AllSentIn c i 0 q.now → q.now ≡ places_of c i → IsOpeningFor g o → IsSoundFinding o → IsOpening awaited (sent_at q.now calls wire) o → IsSome (findings.finding_ticket o) → GetWaits awaited c i calls wire g bytes
   opening_waits o None is sent whole aim sound h held = absurd (none_waits o.doing (sound.none is) held)
-  opening_waits o (Some b) is sent whole aim sound h held = looking_waits awaited c i calls wire q g b o.id o.doing sent whole aim.id_is (aim.placed b is) held (h b is)
+  opening_waits o (Some b) is sent whole aim sound h held = looking_waits awaited c i calls wire q g bytes b o.id o.doing sent whole aim.id_is (aim.placed b is) held (h b is)
 
-  over_at : (e : Ended (Unit {0})) (done k : ℕ) → GetEndedAt e done k → e ≡ ended.Unfinished → ⊥
-  over_at e done k at is = subst (λ (x : Ended (Unit {0})). GetEndedAt x done k) is at
-
-  pub get_caused : (s : GetStage) (bytes done : ℕ) (at : Option ℕ) (k : ℕ) → AllSent c i q done → GetTells awaited calls wire q g s done at → GetStageAt s bytes done k (pends_last i c.order c.notes) → GetCaused awaited c i calls wire g (get_end s)
-  get_caused gets.Unsent bytes done at k sent t is_at = (λ pended. let bad : false ≡ true = sym is_at.3 ∙ pended in absurd cc, unopened_so c i calls wire q g done sent t.0 is_at.1)
-  get_caused (gets.Opens opening) bytes done at k sent t is_at = (
+  pub get_caused : (s : GetStage) (done : ℕ) (at : Option ℕ) → AllSent c i q done → GetTells awaited calls wire q g s done at → GetStageAt s bytes done (turns_done i c.order c.notes) (pends_last i c.order c.notes) g.read → GetCaused awaited c i calls wire g bytes (get_end s)
+  get_caused gets.Unsent done at sent t is_at = (λ pended. let bad : false ≡ true = sym is_at.3 ∙ pended in absurd cc, unopened_so c i calls wire q g done sent bytes is_at.2 t.0 is_at.1 None (record { finds = subst (λ (l : List ℕ). FallsAt (IsFindAt g None) calls 5 l 1) (sym t.1) (falls_none (IsFindAt g None) calls 5 1 (omega arith)); heard = λ f is. let bad : None ≡ Some f = is in absurd cc }))
+  get_caused (gets.Opens opening) done at sent t is_at = (
     λ pended. opening_waits (finding_of opening) (finding_of opening).bucket refl (subst (λ (n : ℕ). AllSentIn c i n q.now) is_at.1 sent.now) (alone c i calls wire q g done sent t.0) t.1 t.2 t.3 (is_at.3 ∙ pended),
-    unopened_so c i calls wire q g done sent t.0 is_at.1,
+    unopened_so c i calls wire q g done sent bytes is_at.2 t.0 is_at.1 (found_in (finding_of opening).doing) (record {
+      finds = falls_below (IsFindAt g (found_in (finding_of opening).doing)) calls 5 q.now (finding_places (finding_of opening).doing) 1 (places_left (finding_of opening).doing) t.4;
+      heard = opening_heard (sent_at q.now calls wire) g awaited (finding_of opening) (finding_of opening).bucket refl t.1 t.2 t.3;
+    }),
   )
-  get_caused (gets.Reads download room) bytes done at k sent t is_at =
+  get_caused (gets.Reads download room) done at sent t is_at =
       let n = above done is_at.1 in
       let d : ClientDownload = download_of download in
-      let these : GetSent c i q.opened n.0 q.now = all_sent c i calls wire q g done sent n.0 n.1 t.1 in (
+      let these : GetSent c i calls g bytes q.opened n.0 q.now = all_sent c i calls wire q g done sent bytes is_at.2 is_at.4 n.0 n.1 t.1 t.0.more in (
         λ pended.
             let w = doing_waits awaited (sent_at q.now calls wire) d d.doing t.3.between.sound.by t.2 t.4 (is_at.3 ∙ pended) in
             causes.for_more n.0 q.now (subst (λ (m : ℕ). AllSentIn c i m q.now) n.1 sent.now) w.0.id w.0.space w.1 d.file (get_opened c i calls wire q g done sent d.file at t.0) these,
         causes.has_opened d.file (get_opened c i calls wire q g done sent d.file at t.0) n.0 q.now these,
       )
-  get_caused (gets.Ended end) bytes done at k sent t is_at = get_end_caused c i calls wire q g done sent awaited end at (over_at end done k is_at.0) t
+  get_caused (gets.Ended end) done at sent t is_at = get_end_caused c i calls wire q g done sent bytes is_at.1 is_at.3 awaited end at is_at.0 t

@@ -5,7 +5,7 @@ use Rattle.mg_link.specs.Link.{Awaited, LogTold}
 use Rattle.mg_players.specs.Gets.{FewCalls, GetHolds, GetStageHolds, get_ticket, gets_ticket}
 use Rattle.mg_players.specs.Headline.{GetPlays, get_task, sought_task}
 use Rattle.mg_players.specs.Plays.{AnySent, Goes, no_move}
-use Rattle.mg_players.specs.Progress.{ComesTo, GetAt, GetGoes}
+use Rattle.mg_players.specs.Progress.{ComesTo, GetAt, GetGoes, GetStageAt}
 use Rattle.mg_players.specs.Telling.{GetSays, GetTurns}
 use Rattle.mg_players.specs.declared.get.GetPlayer.{GetPlayer}
 use Rattle.mg_players.specs.declared.get.GetStage.{GetStage}
@@ -45,10 +45,11 @@ get_gone old new log log' wire wire' p mid after s next was is same_wire tickets
     (subst (λ (w : ℤ). GetGone old new log log' w p (record mid { stage = next })) (sym same_wire)
     (gone_to old new log log' wire p mid next (subst (λ (t : GetStage). Tickets old new (gets_ticket t) (gets_ticket next)) was tickets) holds few same (subst (λ (t : GetStage). GetTurns old new log log' wire (record p { stage = t }) (record mid { stage = next })) was turned)))
 
-pub get_comes : (before now : ℕ) (p mid after : GetPlayer) (s next : GetStage) → s ≡ p.stage → after ≡ record mid { stage = next } → GetGoes before now s (length p.bytes.items) p.done next (length mid.bytes.items) mid.done → ComesTo (λ calls k last. GetAt p k last) (λ calls k last. GetAt after k last) before now
-get_comes before now p mid after s next was is goes =
+pub get_comes : (before now : ℕ) (p mid after : GetPlayer) (s next : GetStage) → s ≡ p.stage → after ≡ record mid { stage = next } → mid.what ≡ p.what → GetGoes before now s (length p.bytes.items) p.done next (length mid.bytes.items) mid.done p.what.read → ComesTo (λ calls k last. GetAt p k last) (λ calls k last. GetAt after k last) before now
+get_comes before now p mid after s next was is same goes =
     subst (λ (x : GetPlayer). ComesTo (λ calls k last. GetAt p k last) (λ calls k last. GetAt x k last) before now) (sym is)
-    (subst (λ (t : GetStage). GetGoes before now t (length p.bytes.items) p.done next (length mid.bytes.items) mid.done) was goes)
+    (subst (λ w. ComesTo (λ calls k last. GetAt p k last) (λ calls k last. GetStageAt next (length mid.bytes.items) mid.done k last w.read) before now) (sym same)
+    (subst (λ (t : GetStage). GetGoes before now t (length p.bytes.items) p.done next (length mid.bytes.items) mid.done p.what.read) was goes))
 
 -- a get that has ended stays as it is
 same_get : (p after : GetPlayer) (e : Ended (Unit {0})) → gets.Ended e ≡ p.stage → after ≡ record p { stage = gets.Ended e } → after ≡ p

@@ -28,6 +28,10 @@ module _ (room : Vec ℕ Global) (lent now : List ℕ) (is : lent ≡ room.items
   pub room_holds : (count : ℕ) → count ≤ length lent → count ≤ length (with_items room now).items
   room_holds count within = subst (λ (n : ℕ). count ≤ n) (sym long_as_lent) within
 
+  -- nor more than a read has room for
+  pub room_fits : (asked count : ℕ) → length room.items ≡ room_of asked → count ≤ length lent → count ≤ room_of asked
+  room_fits asked count long within = subst (λ (n : ℕ). count ≤ n) (ap length is ∙ long) within
+
   -- so many more bytes stand behind those before
   pub room_gives : (before : List ℕ) (count : ℕ) → count ≤ length lent → length (before ++ take count (with_items room now).items) ≡ length before + count
   room_gives before count within =

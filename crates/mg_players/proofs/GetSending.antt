@@ -1,15 +1,14 @@
--- What the polls of a get's opening and of its reads send, and what a read leaves as it is.
-use Rattle.std.proofs.Common.{◌≡◌, ◌<◌, ◌++◌, ◌∷◌, ℕ, zero, suc, ℤ, Bool, true, List, [], Option, Some, None, refl, sym, ap, ◌∙◌, subst, inl, inr, arith}
+-- What the polls of a get's reads send, and what a read leaves as it is.
+use Rattle.std.proofs.Common.{◌≡◌, ◌<◌, ◌++◌, ◌∷◌, ℕ, zero, suc, ℤ, Bool, true, List, [], Option, Some, None, refl, sym, ap, ◌∙◌, subst, arith}
 use Rattle.mg_bson.specs.Raw.{fields}
 use Rattle.mg_bson.specs.Tree.{Fields, Tree}
 use Rattle.mg_link.specs.Errors as errors
-use Rattle.mg_link.specs.Exec.{Runs, Sending, was_started}
+use Rattle.mg_link.specs.Exec.{Sending}
 use Rattle.mg_link.specs.Link.{Awaited, LogTold}
 use Rattle.mg_link.specs.Session.{Session}
 use Rattle.mg_link.specs.declared.action.Step.{Step}
 use Rattle.mg_link.specs.declared.action.Step.TheVariants as step
 use Rattle.mg_link.specs.declared.error.ErrorKind.TheVariants as kind
-use Rattle.mg_options.specs.Fields.{fields_in}
 use Rattle.mg_ops.specs.Cursors.{OpensWith, next_command}
 use Rattle.mg_ops.specs.declared.cursor_reply.CursorSpecification.{CursorSpecification}
 use Rattle.mg_cursor.specs.Client as client
@@ -27,14 +26,14 @@ use Rattle.mg_gridfs.specs.Downloaded.{IsPlainAt}
 use Rattle.mg_gridfs.specs.Downloads as downloads
 use Rattle.mg_gridfs.specs.Downloads.{ClientDownload, Doing, IsSoundDownload, download_ticket, empty_download, missing_chunk, new_download}
 use Rattle.mg_gridfs.specs.Findings as findings
-use Rattle.mg_gridfs.specs.Findings.{BeginsFind, ClientFinding, FindsOn, HearsList, HearsRecord, IsSoundFinding, ListsOn, Looking, Opened, Opens, OpensFile, SoundIn}
+use Rattle.mg_gridfs.specs.Findings.{BeginsFind, ClientFinding, FindsOn, HearsList, HearsRecord, Opens, OpensFile}
 use Rattle.mg_gridfs.specs.ReadCauses.{cursor_in}
 use Rattle.mg_gridfs.specs.Reads as fetching
 use Rattle.mg_gridfs.specs.Reads.{Concludes, EndsFetch, Fetched, Fetches, Fills, HandsOut, Reads, ReadsNone, TakesOne, with_chunks}
 use Rattle.mg_gridfs.specs.declared.polls.ReadPoll.{ReadPoll}
 use Rattle.mg_gridfs.specs.declared.polls.ReadPoll.TheVariants as read
 use Rattle.mg_gridfs.proofs.Sounding.{rest_ticket}
-use Rattle.mg_players.specs.Gets.{AsksPlainly, GetTask, IsGetCommand, IsOpeningFor, for_chunks, for_more, for_record, get_bucket, no_manner}
+use Rattle.mg_players.specs.Gets.{AsksForMore, AsksPlainly, GetTask, get_bucket, no_manner}
 use Rattle.mg_players.proofs.Sends.{manner_behind}
 
 -- ---- commands of one kind
@@ -51,10 +50,6 @@ module _ (may : Fields → Type 0) where
     such = all_joined may a.commands b.commands a.such b.such;
   }
 
-  such_ran : (old new : Awaited) (log log' : LogTold) (wire : ℤ) (s : Sending) (came : Step Sending (List ℕ)) → may (fields s.command) → Runs old new log log' wire s came → AddsSuch may log log'
-  such_ran old new log log' wire s came is (inl once) = again_such may old new log log' wire s came (was_started s.stage once.attempt) is (inl (once, refl))
-  such_ran old new log log' wire s came is (inr twice) = again_such may old new log log' wire s came (was_started s.stage twice.attempt) is (inr (twice, refl))
-
 -- ---- the commands of a bucket that is a copy
 
 pub found_same : (g : GetTask) (b : ClientBucket) (id : Tree) → IsPlainAt b g.at → found_lines b id ≡ found_lines (get_bucket g.at) id
@@ -62,53 +57,6 @@ found_same g b id is = rw (is.place.files, is.no_concern, is.no_criteria) refl
 
 pub listed_same : (g : GetTask) (b : ClientBucket) (id : Tree) → IsPlainAt b g.at → listed_lines b id ≡ listed_lines (get_bucket g.at) id
 listed_same g b id is = rw (is.place.chunks, is.no_concern, is.no_criteria) refl
-
--- ---- an opening
-
-module _ (g : GetTask) (some : 0 < g.read) (b : ClientBucket) (plain : IsPlainAt b g.at) (wire : ℤ) where
-  abbrev may : Fields → Type 0
-  may = IsGetCommand g
-
-  finds_record : (id : Tree) (command : Fields) → id ≡ g.id → command ≡ fields_in (found_lines b id) → may command
-  finds_record id command same is = for_record some (is ∙ ap fields_in (found_same g b id plain) ∙ ap (λ (x : Tree). fields_in (found_lines (get_bucket g.at) x)) same)
-
-  finds_chunks : (id : Tree) (command : Fields) → command ≡ fields_in (listed_lines b id) → may command
-  finds_chunks id command is = for_chunks some id (is ∙ ap fields_in (listed_same g b id plain))
-
-  lists_such : (old new : Awaited) (log log' : LogTold) (f : FileRecord) (count : ℕ) (s : Sending) (r : Opened) → fields s.command ≡ fields_in (listed_lines b f.id) → ListsOn old new log log' wire f count s r → AddsSuch may log log'
-  lists_such old new log log' f count s r is on = such_ran may old new log log' wire s on.came (finds_chunks f.id (fields s.command) is) on.runs
-
-  file_such : (old new : Awaited) (log log' : LogTold) (f : FileRecord) (r : Opened) → OpensFile old new log log' wire b f r → AddsSuch may log log'
-  file_such old new log log' f r (findings.too_many m breaks none is) = such_none may log log' none.log_same
-  file_such old new log log' f r (findings.is_empty empty none is) = such_none may log log' none.log_same
-  file_such old new log log' f r (findings.not_built full e why none is) = such_none may log log' none.log_same
-  file_such old new log log' f r (findings.listed full count counted s new_one on) = lists_such old new log log' f count s r new_one.command_is on
-
-  hears_such : (old new : Awaited) (log log' : LogTold) (id : Tree) (bytes : List ℕ) (r : Opened) → HearsRecord old new log log' wire b id bytes r → AddsSuch may log log'
-  hears_such old new log log' id bytes r (findings.none_found reads_so e not_there none is) = such_none may log log' none.log_same
-  hears_such old new log log' id bytes r (findings.is_found f reads_so on) = file_such old new log log' f r on
-  hears_such old new log log' id bytes r (findings.broke e why none is) = such_none may log log' none.log_same
-
-  finds_such : (old new : Awaited) (log log' : LogTold) (id : Tree) (s : Sending) (r : Opened) → id ≡ g.id → fields s.command ≡ fields_in (found_lines b id) → FindsOn old new log log' wire b id s r → AddsSuch may log log'
-  finds_such old new log log' id s r same is (findings.pends still runs answer) = such_ran may old new log log' wire s (step.Pending still) (finds_record id (fields s.command) same is) runs
-  finds_such old new log log' id s r same is (findings.hears between log_between bytes runs on) =
-      such_both may log log_between log' (such_ran may old between log log_between wire s (step.Done bytes) (finds_record id (fields s.command) same is) runs) (hears_such between new log_between log' id bytes r on)
-  finds_such old new log log' id s r same is (findings.failed e runs answer) = such_ran may old new log log' wire s (step.Failed e) (finds_record id (fields s.command) same is) runs
-
-  begins_such : (old new : Awaited) (log log' : LogTold) (id : Tree) (r : Opened) → id ≡ g.id → BeginsFind old new log log' wire b id r → AddsSuch may log log'
-  begins_such old new log log' id r same (findings.built s new_one on) = finds_such old new log log' id s r same new_one.command_is on
-  begins_such old new log log' id r same (findings.not_built e why none is) = such_none may log log' none.log_same
-
--- A poll of the opening sends what its get may.
-module _ (g : GetTask) (some : 0 < g.read) (old new : Awaited) (log log' : LogTold) (wire : ℤ) (o : ClientFinding) (r : Opened) (aim : IsOpeningFor g o) (sound : IsSoundFinding o) where
-  sound_as : (b : ClientBucket) (doing : Looking) → o.bucket ≡ Some b → o.doing ≡ doing → SoundIn b o.id doing
-  sound_as b doing is there = subst (SoundIn b o.id) there (sound.own b is)
-
-  pub opening_such : Opens old new log log' wire o r → AddsSuch (IsGetCommand g) log log'
-  opening_such (findings.no_bucket none quiet is) = such_none (IsGetCommand g) log log' quiet.log_same
-  opening_such (findings.begins b is there on) = begins_such g some b (aim.placed b is) wire old new log log' o.id r aim.id_is on
-  opening_such (findings.finds_on b is s there on) = finds_such g some b (aim.placed b is) wire old new log log' o.id s r aim.id_is (sound_as b (findings.finds s) is there).command_is on
-  opening_such (findings.lists_on b is f count s there on) = lists_such g some b (aim.placed b is) wire old new log log' f count s r (sound_as b (findings.lists f count s) is there).request.command_is on
 
 -- ---- a batch of a read
 
@@ -145,18 +93,18 @@ module _ (old new : Awaited) (log log' : LogTold) (wire : ℤ) (started : Bool) 
   polls_rest reply (polling.begins at may_ask sending new_one h) = hears_rest h.came reply h.hears
   polls_rest reply (polling.goes_on sending at h) = hears_rest h.came reply h.hears
 
-  module _ (g : GetTask) (some : 0 < g.read) (plain : IsPlainCursor c) where
-    more_so : (command : Fields) → command ≡ get_more c None → IsGetCommand g command
-    more_so command is = for_more some c.id c.space (is ∙ ap (next_command c.id c.space) plain.manner)
+  module _ (plain : IsPlainCursor c) where
+    more_so : (command : Fields) → command ≡ get_more c None → AsksForMore command
+    more_so command is = record { cursor = c.id; space = c.space; asks_so = is ∙ ap (next_command c.id c.space) plain.manner }
 
-    polls_such : (r : NextPoll) → PollsNext old new log log' wire None started c c' r → AddsSuch (IsGetCommand g) log log'
-    polls_such r (polling.hands_out reply at quiet unstarted is answer) = such_none (IsGetCommand g) log log' quiet.log_same
-    polls_such r (polling.is_over at over quiet unstarted is answer) = such_none (IsGetCommand g) log log' quiet.log_same
-    polls_such r (polling.not_built at may_ask e by quiet unstarted is answer) = such_none (IsGetCommand g) log log' quiet.log_same
-    polls_such r (polling.begins at may_ask sending new_one h) = again_such (IsGetCommand g) old new log log' wire sending h.came started (more_so (fields sending.command) new_one.command_is) h.runs
+    polls_such : (r : NextPoll) → PollsNext old new log log' wire None started c c' r → AddsSuch AsksForMore log log'
+    polls_such r (polling.hands_out reply at quiet unstarted is answer) = such_none AsksForMore log log' quiet.log_same
+    polls_such r (polling.is_over at over quiet unstarted is answer) = such_none AsksForMore log log' quiet.log_same
+    polls_such r (polling.not_built at may_ask e by quiet unstarted is answer) = such_none AsksForMore log log' quiet.log_same
+    polls_such r (polling.begins at may_ask sending new_one h) = again_such AsksForMore old new log log' wire sending h.came started (more_so (fields sending.command) new_one.command_is) h.runs
     polls_such r (polling.goes_on sending at h) =
         let own : IsAsking true c sending = subst (client.SoundBy true c) at plain.sound in
-        again_such (IsGetCommand g) old new log log' wire sending h.came started (more_so (fields sending.command) (own.waits_on.command_is ∙ ap (λ (s : Option Session). get_more c s) own.plainly)) h.runs
+        again_such AsksForMore old new log log' wire sending h.came started (more_so (fields sending.command) (own.waits_on.command_is ∙ ap (λ (s : Option Session). get_more c s) own.plainly)) h.runs
 
 -- ---- all batches of a poll
 
@@ -182,8 +130,8 @@ IsGiving downloads.ended = Unit {0}
 IsGiving downloads.spoiled = ⊥
 
 -- what a poll of a read sent, and what it left as it is
-pub record ReadsOn (g : GetTask) (log log' : LogTold) (d d' : ClientDownload) : Type 0 where
-  pub such : AddsSuch (IsGetCommand g) log log'
+pub record ReadsOn (log log' : LogTold) (d d' : ClientDownload) : Type 0 where
+  pub such : AddsSuch AsksForMore log log'
   pub file : d'.file ≡ d.file
   pub plain : AsksPlainly d'
 
@@ -194,123 +142,122 @@ one_plain doing c here manner x is = let same : c ≡ x = (let e : Some c ≡ So
 none_plain : (d : ClientDownload) → cursor_in d.doing ≡ None → AsksPlainly d
 none_plain d none x is = absurd (let e : Some x ≡ None = sym is ∙ none in cc)
 
-module _ (g : GetTask) (some : 0 < g.read) where
-  -- a batch is taken, behind which it goes on
-  chunks_file : (chunks : List (List ℕ)) (c : ClientCursor) (missing empty : ℕ) (d : ClientDownload) → (with_chunks chunks c missing empty d).file ≡ d.file
-  chunks_file [] c missing empty d = refl
-  chunks_file (b ∷ bs) c missing empty d = refl
+-- a batch is taken, behind which it goes on
+chunks_file : (chunks : List (List ℕ)) (c : ClientCursor) (missing empty : ℕ) (d : ClientDownload) → (with_chunks chunks c missing empty d).file ≡ d.file
+chunks_file [] c missing empty d = refl
+chunks_file (b ∷ bs) c missing empty d = refl
 
-  chunks_cursor : (chunks : List (List ℕ)) (c : ClientCursor) (missing empty : ℕ) (d : ClientDownload) → cursor_in (with_chunks chunks c missing empty d).doing ≡ Some c
-  chunks_cursor [] c missing empty d = refl
-  chunks_cursor (b ∷ bs) c missing empty d = refl
+chunks_cursor : (chunks : List (List ℕ)) (c : ClientCursor) (missing empty : ℕ) (d : ClientDownload) → cursor_in (with_chunks chunks c missing empty d).doing ≡ Some c
+chunks_cursor [] c missing empty d = refl
+chunks_cursor (b ∷ bs) c missing empty d = refl
 
-  record OneTaken (log log' : LogTold) (d m : ClientDownload) : Type 0 where
-    such : AddsSuch (IsGetCommand g) log log'
-    file : m.file ≡ d.file
-    plain : IsPlainFetch m.doing
+record OneTaken (log log' : LogTold) (d m : ClientDownload) : Type 0 where
+  such : AddsSuch AsksForMore log log'
+  file : m.file ≡ d.file
+  plain : IsPlainFetch m.doing
 
-  one_taken : (old mid : Awaited) (log log_mid : LogTold) (wire : ℤ) (d m : ClientDownload) → IsPlainFetch d.doing → TakesOne old mid log log_mid wire d m → OneTaken log log_mid d m
-  one_taken old mid log log_mid wire d m plain one =
-      let here = cursor_at d one.cursor one.missing one.empty one.at plain in
-      let rests = polls_rest old mid log log_mid wire one.started one.cursor one.behind one.reply one.polls in
-      let manner = polls_manner old mid log log_mid wire one.started one.cursor one.behind (next.Batch one.reply) one.polls ∙ here.manner in
-      let t = one.takes in
-      let behind : IsPlainCursor one.behind = record { sound = subst (client.SoundBy true one.behind) (sym rests) tt; manner = manner } in
-      record {
-        such = polls_such old mid log log_mid wire one.started one.cursor one.behind g some here (next.Batch one.reply) one.polls;
-        file = ap (λ (x : ClientDownload). x.file) t.taken ∙ chunks_file t.chunks one.behind one.missing one.empty d;
-        plain = λ c is.
-            let at : cursor_in m.doing ≡ Some one.behind = ap (λ (x : ClientDownload). cursor_in x.doing) t.taken ∙ chunks_cursor t.chunks one.behind one.missing one.empty d in
-            let same : one.behind ≡ c = (let e : Some one.behind ≡ Some c = sym at ∙ is in cc) in
-            subst IsPlainCursor same behind;
-      }
+one_taken : (old mid : Awaited) (log log_mid : LogTold) (wire : ℤ) (d m : ClientDownload) → IsPlainFetch d.doing → TakesOne old mid log log_mid wire d m → OneTaken log log_mid d m
+one_taken old mid log log_mid wire d m plain one =
+    let here = cursor_at d one.cursor one.missing one.empty one.at plain in
+    let rests = polls_rest old mid log log_mid wire one.started one.cursor one.behind one.reply one.polls in
+    let manner = polls_manner old mid log log_mid wire one.started one.cursor one.behind (next.Batch one.reply) one.polls ∙ here.manner in
+    let t = one.takes in
+    let behind : IsPlainCursor one.behind = record { sound = subst (client.SoundBy true one.behind) (sym rests) tt; manner = manner } in
+    record {
+      such = polls_such old mid log log_mid wire one.started one.cursor one.behind here (next.Batch one.reply) one.polls;
+      file = ap (λ (x : ClientDownload). x.file) t.taken ∙ chunks_file t.chunks one.behind one.missing one.empty d;
+      plain = λ c is.
+          let at : cursor_in m.doing ≡ Some one.behind = ap (λ (x : ClientDownload). cursor_in x.doing) t.taken ∙ chunks_cursor t.chunks one.behind one.missing one.empty d in
+          let same : one.behind ≡ c = (let e : Some one.behind ≡ Some c = sym at ∙ is in cc) in
+          subst IsPlainCursor same behind;
+    }
 
-  ends_fetching : (old new : Awaited) (log log' : LogTold) (wire : ℤ) (d d' : ClientDownload) (f : Fetched) → IsPlainFetch d.doing → EndsFetch old new log log' wire d d' f → ReadsOn g log log' d d'
-  ends_fetching old new log log' wire d d' f plain (fetching.none_missing c empty at quiet is answer) = record {
-    such = such_none (IsGetCommand g) log log' quiet.log_same;
-    file = ap (λ (x : ClientDownload). x.file) is;
-    plain = one_plain d'.doing c (ap (λ (x : ClientDownload). cursor_in x.doing) is) (cursor_at d c 0 empty at plain).manner;
-  }
-  ends_fetching old new log log' wire d d' f plain (fetching.over c missing empty at short started behind polls is answer) =
-      let here = cursor_at d c missing empty at plain in
-      record {
-        such = polls_such old new log log' wire started c behind g some here next.End polls;
-        file = ap (λ (x : ClientDownload). x.file) is;
-        plain = one_plain d'.doing behind (ap (λ (x : ClientDownload). cursor_in x.doing) is) (polls_manner old new log log' wire started c behind next.End polls ∙ here.manner);
-      }
-  ends_fetching old new log log' wire d d' f plain (fetching.pends c missing empty at short started behind polls is answer) =
-      let here = cursor_at d c missing empty at plain in
-      record {
-        such = polls_such old new log log' wire started c behind g some here next.Pending polls;
-        file = ap (λ (x : ClientDownload). x.file) is;
-        plain = one_plain d'.doing behind (ap (λ (x : ClientDownload). cursor_in x.doing) is) (polls_manner old new log log' wire started c behind next.Pending polls ∙ here.manner);
-      }
-  ends_fetching old new log log' wire d d' f plain (fetching.no_more c missing empty at short started behind e polls is answer) = record {
-    such = polls_such old new log log' wire started c behind g some (cursor_at d c missing empty at plain) (next.Failed e) polls;
-    file = ap (λ (x : ClientDownload). x.file) is;
-    plain = none_plain d' (ap (λ (x : ClientDownload). cursor_in x.doing) is);
-  }
-  ends_fetching old new log log' wire d d' f plain (fetching.not_taken c missing empty at short started behind reply e polls why is answer) = record {
-    such = polls_such old new log log' wire started c behind g some (cursor_at d c missing empty at plain) (next.Batch reply) polls;
-    file = ap (λ (x : ClientDownload). x.file) is;
-    plain = none_plain d' (ap (λ (x : ClientDownload). cursor_in x.doing) is);
-  }
+ends_fetching : (old new : Awaited) (log log' : LogTold) (wire : ℤ) (d d' : ClientDownload) (f : Fetched) → IsPlainFetch d.doing → EndsFetch old new log log' wire d d' f → ReadsOn log log' d d'
+ends_fetching old new log log' wire d d' f plain (fetching.none_missing c empty at quiet is answer) = record {
+  such = such_none AsksForMore log log' quiet.log_same;
+  file = ap (λ (x : ClientDownload). x.file) is;
+  plain = one_plain d'.doing c (ap (λ (x : ClientDownload). cursor_in x.doing) is) (cursor_at d c 0 empty at plain).manner;
+}
+ends_fetching old new log log' wire d d' f plain (fetching.over c missing empty at short started behind polls is answer) =
+    let here = cursor_at d c missing empty at plain in
+    record {
+      such = polls_such old new log log' wire started c behind here next.End polls;
+      file = ap (λ (x : ClientDownload). x.file) is;
+      plain = one_plain d'.doing behind (ap (λ (x : ClientDownload). cursor_in x.doing) is) (polls_manner old new log log' wire started c behind next.End polls ∙ here.manner);
+    }
+ends_fetching old new log log' wire d d' f plain (fetching.pends c missing empty at short started behind polls is answer) =
+    let here = cursor_at d c missing empty at plain in
+    record {
+      such = polls_such old new log log' wire started c behind here next.Pending polls;
+      file = ap (λ (x : ClientDownload). x.file) is;
+      plain = one_plain d'.doing behind (ap (λ (x : ClientDownload). cursor_in x.doing) is) (polls_manner old new log log' wire started c behind next.Pending polls ∙ here.manner);
+    }
+ends_fetching old new log log' wire d d' f plain (fetching.no_more c missing empty at short started behind e polls is answer) = record {
+  such = polls_such old new log log' wire started c behind (cursor_at d c missing empty at plain) (next.Failed e) polls;
+  file = ap (λ (x : ClientDownload). x.file) is;
+  plain = none_plain d' (ap (λ (x : ClientDownload). cursor_in x.doing) is);
+}
+ends_fetching old new log log' wire d d' f plain (fetching.not_taken c missing empty at short started behind reply e polls why is answer) = record {
+  such = polls_such old new log log' wire started c behind (cursor_at d c missing empty at plain) (next.Batch reply) polls;
+  file = ap (λ (x : ClientDownload). x.file) is;
+  plain = none_plain d' (ap (λ (x : ClientDownload). cursor_in x.doing) is);
+}
 
-  fetches_on : (n : ℕ) (old new : Awaited) (log log' : LogTold) (wire : ℤ) (d d' : ClientDownload) (f : Fetched) → IsPlainFetch d.doing → Fetches n old new log log' wire d d' f → ReadsOn g log log' d d'
-  unfolding Fetches
-  fetches_on zero old new log log' wire d d' f plain h = ends_fetching old new log log' wire d d' f plain h
-  fetches_on (suc n) old new log log' wire d d' f plain h =
-      let one = one_taken old h.0 log h.1 wire d h.2 plain h.3 in
-      let rest = fetches_on n h.0 new h.1 log' wire h.2 d' f one.plain h.4 in
-      record { such = such_both (IsGetCommand g) log h.1 log' one.such rest.such; file = rest.file ∙ one.file; plain = rest.plain }
+fetches_on : (n : ℕ) (old new : Awaited) (log log' : LogTold) (wire : ℤ) (d d' : ClientDownload) (f : Fetched) → IsPlainFetch d.doing → Fetches n old new log log' wire d d' f → ReadsOn log log' d d'
+unfolding Fetches
+fetches_on zero old new log log' wire d d' f plain h = ends_fetching old new log log' wire d d' f plain h
+fetches_on (suc n) old new log log' wire d d' f plain h =
+    let one = one_taken old h.0 log h.1 wire d h.2 plain h.3 in
+    let rest = fetches_on n h.0 new h.1 log' wire h.2 d' f one.plain h.4 in
+    record { such = such_both AsksForMore log h.1 log' one.such rest.such; file = rest.file ∙ one.file; plain = rest.plain }
 
-  -- ---- a read
+-- ---- a read
 
-  -- what is given leaves the cursor where it is
-  hands_out : (room : ℕ) (c : ClientCursor) (d d' : ClientDownload) (given : List ℕ) (r : ReadPoll) → c.manner ≡ no_manner → HandsOut room c d d' given r → (d'.file ≡ d.file) × AsksPlainly d'
-  hands_out room c d d' given r manner (fetching.goes_on more these is answer) =
-      (ap (λ (x : ClientDownload). x.file) is, one_plain d'.doing c (ap (λ (x : ClientDownload). cursor_in x.doing) is) manner)
-  hands_out room c d d' given r manner (fetching.ends all over counts these is answer) = (ap (λ (x : ClientDownload). x.file) is, none_plain d' (ap (λ (x : ClientDownload). cursor_in x.doing) is))
-  hands_out room c d d' given r manner (fetching.miscounts all over counts these is answer) = (ap (λ (x : ClientDownload). x.file) is, none_plain d' (ap (λ (x : ClientDownload). cursor_in x.doing) is))
+-- what is given leaves the cursor where it is
+hands_out : (room : ℕ) (c : ClientCursor) (d d' : ClientDownload) (given : List ℕ) (r : ReadPoll) → c.manner ≡ no_manner → HandsOut room c d d' given r → (d'.file ≡ d.file) × AsksPlainly d'
+hands_out room c d d' given r manner (fetching.goes_on more these is answer) =
+    (ap (λ (x : ClientDownload). x.file) is, one_plain d'.doing c (ap (λ (x : ClientDownload). cursor_in x.doing) is) manner)
+hands_out room c d d' given r manner (fetching.ends all over counts these is answer) = (ap (λ (x : ClientDownload). x.file) is, none_plain d' (ap (λ (x : ClientDownload). cursor_in x.doing) is))
+hands_out room c d d' given r manner (fetching.miscounts all over counts these is answer) = (ap (λ (x : ClientDownload). x.file) is, none_plain d' (ap (λ (x : ClientDownload). cursor_in x.doing) is))
 
-  same_plain : (d d' : ClientDownload) → d' ≡ d → AsksPlainly d → AsksPlainly d'
-  same_plain d d' is plain = subst AsksPlainly (sym is) plain
+same_plain : (d d' : ClientDownload) → d' ≡ d → AsksPlainly d → AsksPlainly d'
+same_plain d d' is plain = subst AsksPlainly (sym is) plain
 
-  concludes_so : (room : ℕ) (f : Fetched) (d d' : ClientDownload) (given : List ℕ) (r : ReadPoll) → AsksPlainly d → Concludes room f d d' given r → (d'.file ≡ d.file) × AsksPlainly d'
-  concludes_so room fetching.waits d d' given r plain h = (ap (λ (x : ClientDownload). x.file) h.0, same_plain d d' h.0 plain)
-  concludes_so room fetching.enough d d' given r plain h = hands_out room h.0 d d' given r (plain h.0 (ap cursor_in h.1)) h.2
-  concludes_so room (fetching.fails e) d d' given r plain h = (ap (λ (x : ClientDownload). x.file) h.0, same_plain d d' h.0 plain)
+concludes_so : (room : ℕ) (f : Fetched) (d d' : ClientDownload) (given : List ℕ) (r : ReadPoll) → AsksPlainly d → Concludes room f d d' given r → (d'.file ≡ d.file) × AsksPlainly d'
+concludes_so room fetching.waits d d' given r plain h = (ap (λ (x : ClientDownload). x.file) h.0, same_plain d d' h.0 plain)
+concludes_so room fetching.enough d d' given r plain h = hands_out room h.0 d d' given r (plain h.0 (ap cursor_in h.1)) h.2
+concludes_so room (fetching.fails e) d d' given r plain h = (ap (λ (x : ClientDownload). x.file) h.0, same_plain d d' h.0 plain)
 
-  fills_on : (old new : Awaited) (log log' : LogTold) (wire : ℤ) (room : ℕ) (d d' : ClientDownload) (given : List ℕ) (r : ReadPoll) → IsPlainFetch d.doing → Fills old new log log' wire room d d' given r → ReadsOn g log log' d d'
-  fills_on old new log log' wire room d d' given r plain h =
-      let f = fetches_on h.batches old new log log' wire d h.left h.fetched plain h.fetches in
-      let c = concludes_so room h.fetched h.left d' given r f.plain h.concludes in
-      record { such = f.such; file = c.0 ∙ f.file; plain = c.1 }
+fills_on : (old new : Awaited) (log log' : LogTold) (wire : ℤ) (room : ℕ) (d d' : ClientDownload) (given : List ℕ) (r : ReadPoll) → IsPlainFetch d.doing → Fills old new log log' wire room d d' given r → ReadsOn log log' d d'
+fills_on old new log log' wire room d d' given r plain h =
+    let f = fetches_on h.batches old new log log' wire d h.left h.fetched plain h.fetches in
+    let c = concludes_so room h.fetched h.left d' given r f.plain h.concludes in
+    record { such = f.such; file = c.0 ∙ f.file; plain = c.1 }
 
-  -- the cursors of a download are sound
-  plain_by : (d : ClientDownload) (doing : Doing) → downloads.SoundBy d doing → ((c : ClientCursor) → cursor_in doing ≡ Some c → c.manner ≡ no_manner) → IsPlainFetch doing
-  plain_by d (downloads.idle cursor) sound plain c is = let same : cursor ≡ c = cc in subst IsPlainCursor same (record { sound = sound.1; manner = plain cursor refl })
-  plain_by d (downloads.reads cursor missing empty) sound plain c is = let same : cursor ≡ c = cc in subst IsPlainCursor same (record { sound = sound.1.sound; manner = plain cursor refl })
-  plain_by d downloads.ended sound plain c is = absurd cc
-  plain_by d downloads.spoiled sound plain c is = absurd cc
+-- the cursors of a download are sound
+plain_by : (d : ClientDownload) (doing : Doing) → downloads.SoundBy d doing → ((c : ClientCursor) → cursor_in doing ≡ Some c → c.manner ≡ no_manner) → IsPlainFetch doing
+plain_by d (downloads.idle cursor) sound plain c is = let same : cursor ≡ c = cc in subst IsPlainCursor same (record { sound = sound.1; manner = plain cursor refl })
+plain_by d (downloads.reads cursor missing empty) sound plain c is = let same : cursor ≡ c = cc in subst IsPlainCursor same (record { sound = sound.1.sound; manner = plain cursor refl })
+plain_by d downloads.ended sound plain c is = absurd cc
+plain_by d downloads.spoiled sound plain c is = absurd cc
 
-  -- nothing was given, and nothing changed
-  none_read : (old new : Awaited) (log log' : LogTold) (d d' : ClientDownload) (given : List ℕ) (r : ReadPoll) → AsksPlainly d → ReadsNone old new log log' d d' given r → ReadsOn g log log' d d'
-  none_read old new log log' d d' given r plain h = record { such = such_none (IsGetCommand g) log log' h.quiet.log_same; file = ap (λ (x : ClientDownload). x.file) h.same; plain = same_plain d d' h.same plain }
+-- nothing was given, and nothing changed
+none_read : (old new : Awaited) (log log' : LogTold) (d d' : ClientDownload) (given : List ℕ) (r : ReadPoll) → AsksPlainly d → ReadsNone old new log log' d d' given r → ReadsOn log log' d d'
+none_read old new log log' d d' given r plain h = record { such = such_none AsksForMore log log' h.quiet.log_same; file = ap (λ (x : ClientDownload). x.file) h.same; plain = same_plain d d' h.same plain }
 
-  -- A poll of a read sends what its get may, and leaves the record of the file.
-  pub read_on : (old new : Awaited) (log log' : LogTold) (wire : ℤ) (room : ℕ) (d d' : ClientDownload) (given : List ℕ) (r : ReadPoll) → IsSoundDownload d → AsksPlainly d → Reads old new log log' wire room d d' given r → ReadsOn g log log' d d'
-  read_on old new log log' wire room d d' given r sound plain (fetching.no_room none h) = none_read old new log log' d d' given r plain h
-  read_on old new log log' wire room d d' given r sound plain (fetching.is_over full over h) = none_read old new log log' d d' given r plain h
-  read_on old new log log' wire room d d' given r sound plain (fetching.in_hand full c at ahead quiet h) =
-      let p = hands_out room c d d' given r (plain c (ap cursor_in at)) h in
-      record { such = such_none (IsGetCommand g) log log' quiet.log_same; file = p.0; plain = p.1 }
-  read_on old new log log' wire room d d' given r sound plain (fetching.begins full c at ahead h) =
-      let one : IsPlainCursor c = plain_by d d.doing sound.by plain c (ap cursor_in at) in
-      let m : ClientDownload = record d { doing = downloads.reads c room 0 } in
-      let f = fills_on old new log log' wire room m d' given r (λ x is. let same : c ≡ x = cc in subst IsPlainCursor same one) h in
-      record { such = f.such; file = f.file; plain = f.plain }
-  read_on old new log log' wire room d d' given r sound plain (fetching.goes_on full c missing empty at h) = fills_on old new log log' wire room d d' given r (plain_by d d.doing sound.by plain) h
+-- A poll of a read asks for more chunks alone, and leaves the record of the file.
+pub read_on : (old new : Awaited) (log log' : LogTold) (wire : ℤ) (room : ℕ) (d d' : ClientDownload) (given : List ℕ) (r : ReadPoll) → IsSoundDownload d → AsksPlainly d → Reads old new log log' wire room d d' given r → ReadsOn log log' d d'
+read_on old new log log' wire room d d' given r sound plain (fetching.no_room none h) = none_read old new log log' d d' given r plain h
+read_on old new log log' wire room d d' given r sound plain (fetching.is_over full over h) = none_read old new log log' d d' given r plain h
+read_on old new log log' wire room d d' given r sound plain (fetching.in_hand full c at ahead quiet h) =
+    let p = hands_out room c d d' given r (plain c (ap cursor_in at)) h in
+    record { such = such_none AsksForMore log log' quiet.log_same; file = p.0; plain = p.1 }
+read_on old new log log' wire room d d' given r sound plain (fetching.begins full c at ahead h) =
+    let one : IsPlainCursor c = plain_by d d.doing sound.by plain c (ap cursor_in at) in
+    let m : ClientDownload = record d { doing = downloads.reads c room 0 } in
+    let f = fills_on old new log log' wire room m d' given r (λ x is. let same : c ≡ x = cc in subst IsPlainCursor same one) h in
+    record { such = f.such; file = f.file; plain = f.plain }
+read_on old new log log' wire room d d' given r sound plain (fetching.goes_on full c missing empty at h) = fills_on old new log log' wire room d d' given r (plain_by d d.doing sound.by plain) h
 
 -- ---- where a read stands behind what it gave
 

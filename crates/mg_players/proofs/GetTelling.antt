@@ -1,5 +1,6 @@
 -- What a get tells goes on to hold, turn by turn.
-use Rattle.std.proofs.Common.{◌≡◌, ℕ, ℤ, List, Option, Some}
+use Rattle.std.proofs.Common.{◌≡◌, ◌++◌, ℕ, ℤ, List, Option, Some}
+use Rattle.std.specs.List.{concat}
 use Rattle.mg_link.specs.Calls.{Grows, Keeps}
 use Rattle.mg_link.specs.Link.{Awaited}
 use Rattle.mg_link.specs.Log.{Call}
@@ -13,13 +14,15 @@ use Rattle.mg_gridfs.proofs.ReadCaused.{read_fails_grow}
 use Rattle.mg_script.specs.declared.outcome.Ended.{Ended}
 use Rattle.mg_script.specs.declared.outcome.Ended.TheVariants as ended
 use Rattle.mg_players.specs.Causes.{sent_at}
-use Rattle.mg_players.specs.Gets.{GetTask, get_bucket, gets_ticket}
+use Rattle.mg_players.specs.Gets.{GetTask, IsFindAt, get_bucket, gets_ticket}
 use Rattle.mg_players.specs.Plays.{Places, all_places}
 use Rattle.mg_players.specs.Spares.{SparesWhole}
 use Rattle.mg_players.specs.Telling as tells
-use Rattle.mg_players.specs.Telling.{GetTells, TellsGetEnd, TellsGetFails, TellsGetOpened}
+use Rattle.mg_players.specs.Telling.{GetTells, TellsAsked, TellsGetEnd, TellsGetFails, TellsGetOpened, finding_places, found_in}
 use Rattle.mg_players.specs.declared.get.GetStage.{GetStage}
 use Rattle.mg_players.specs.declared.get.GetStage.TheVariants as gets
+use Rattle.mg_players.proofs.Commands.{falls_later}
+use Rattle.mg_players.proofs.GetAdding.{asks_later}
 use Rattle.mg_players.proofs.GetSpared.{lists_grow, spares_grow, stops_grow}
 use Rattle.mg_players.proofs.Telling.{grows_later}
 
@@ -30,7 +33,19 @@ module _ (calls calls' : List Call) (wire : ℤ) (keeps : Keeps calls calls') (o
   later places = grows_later places calls calls' wire keeps
 
   pub opened_later : (f : FileRecord) (at : Option ℕ) → TellsGetOpened calls wire q g f at → TellsGetOpened calls' wire q g f at
-  opened_later f at t = record { heard = record_grows (sent_at q.opened calls wire) (sent_at q.opened calls' wire) (later q.opened) (get_bucket g.at) g.id (Some f) t.heard; listed = t.listed }
+  opened_later f at t = record {
+    heard = record_grows (sent_at q.opened calls wire) (sent_at q.opened calls' wire) (later q.opened) (get_bucket g.at) g.id (Some f) t.heard;
+    listed = t.listed;
+    finds = falls_later (IsFindAt g (Some f)) calls calls' 5 q.opened 1 keeps t.finds;
+    more = asks_later calls calls' keeps (concat q.owns ++ q.now) t.more;
+  }
+
+  asked_later : (done : ℕ) → TellsAsked calls wire q g done → TellsAsked calls' wire q g done
+  asked_later done (tells.in_opening silent first found a) = tells.in_opening silent first found (record {
+    finds = falls_later (IsFindAt g found) calls calls' 5 q.now 1 keeps a.finds;
+    heard = λ f is. record_grows (sent_at q.now calls wire) (sent_at q.now calls' wire) (later q.now) (get_bucket g.at) g.id (Some f) (a.heard f is);
+  })
+  asked_later done (tells.behind_it f at opened counted) = tells.behind_it f at (opened_later f at opened) counted
 
   fails_later : (done : ℕ) (e : Error) → TellsGetFails calls wire q g done e → TellsGetFails calls' wire q g done e
   fails_later done e (tells.out_of_memory room) = tells.out_of_memory room
@@ -43,13 +58,18 @@ module _ (calls calls' : List Call) (wire : ℤ) (keeps : Keeps calls calls') (o
   end_later : (end : Ended (Unit {0})) (done : ℕ) (at : Option ℕ) → TellsGetEnd calls wire q g done at end → TellsGetEnd calls' wire q g done at end
   end_later ended.Unfinished done at t = tt
   end_later (ended.Gave x) done at t = (t.0, t.1, opened_later t.1 at t.2, t.3)
-  end_later (ended.Failed e) done at t = fails_later done e t
+  end_later (ended.Failed e) done at t = (fails_later done e t.0, asked_later done t.1)
 
 -- Where its own ticket goes with the same call, a get tells in a later log what it told.
 pub get_tells_later : (old new : Awaited) (calls calls' : List Call) (wire : ℤ) (q : Places) (g : GetTask) (s : GetStage) (done : ℕ) (at : Option ℕ) → Keeps calls calls' → Onward calls calls' nobody → ((m : ℕ) → gets_ticket s ≡ Some m → new m ≡ old m) → GetTells old calls wire q g s done at → GetTells new calls' wire q g s done at
 get_tells_later old new calls calls' wire q g gets.Unsent done at keeps onward same t = t
-get_tells_later old new calls calls' wire q g (gets.Opens opening) done at keeps onward same t =
-    (t.0, t.1, t.2, opening_grows (sent_at q.now calls wire) (sent_at q.now calls' wire) (grows_later q.now calls calls' wire keeps) old new (finding_of opening) same t.3)
+get_tells_later old new calls calls' wire q g (gets.Opens opening) done at keeps onward same t = (
+  t.0,
+  t.1,
+  t.2,
+  opening_grows (sent_at q.now calls wire) (sent_at q.now calls' wire) (grows_later q.now calls calls' wire keeps) old new (finding_of opening) same t.3,
+  falls_later (IsFindAt g (found_in (finding_of opening).doing)) calls calls' 5 q.now (finding_places (finding_of opening).doing) keeps t.4,
+)
 get_tells_later old new calls calls' wire q g (gets.Reads download room) done at keeps onward same t = (
   opened_later calls calls' wire keeps onward q g (download_of download).file at t.0,
   t.1,

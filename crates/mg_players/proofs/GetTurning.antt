@@ -42,18 +42,21 @@ use Rattle.mg_gridfs.proofs.Growing.{fetching_grows, opening_fails_grow, opening
 use Rattle.mg_gridfs.proofs.Opened.{record_grows}
 use Rattle.mg_gridfs.proofs.ReadCaused.{read_fails_grow}
 use Rattle.mg_script.specs.declared.outcome.Ended.TheVariants as ended
-use Rattle.mg_players.specs.Causes.{sent_at, sent_since}
-use Rattle.mg_players.specs.Gets.{AsksPlainly, GetKnowsAt, GetTask, IsGetCommand, IsOpeningFor, KeepsRead, OpensAs, done_behind, get_bucket, get_owner, room_of, sought}
+use Rattle.mg_players.specs.Causes.{AskForMore, FallsAt, sent_at, sent_since}
+use Rattle.mg_players.specs.Gets.{AsksForMore, AsksPlainly, GetKnowsAt, GetTask, IsFindAt, IsGetCommand, IsOpeningFor, KeepsRead, OpensAs, done_behind, get_bucket, get_owner, room_of, sought}
 use Rattle.mg_players.specs.Plays.{Moves, MovesTo, Places, all_places, by_finding, no_move}
 use Rattle.mg_players.specs.Spares.{ListsIts, SparesWhole}
 use Rattle.mg_players.specs.Telling as tells
-use Rattle.mg_players.specs.Telling.{GetTell, GetTells, GetTurns, TellsGetFails, TellsGetOpened, TellsNoCall}
+use Rattle.mg_players.specs.Telling.{FindsSoFar, GetTell, GetTells, GetTurns, TellsGetFails, TellsGetOpened, TellsNoCall, finding_places}
 use Rattle.mg_players.specs.declared.get.GetPlayer.{GetPlayer}
 use Rattle.mg_players.specs.declared.get.GetStage.{GetStage}
 use Rattle.mg_players.specs.declared.get.GetStage.TheVariants as gets
 use Rattle.mg_players.proofs.Adding.{adds_sent}
+use Rattle.mg_players.proofs.Commands.{falls_later, falls_none}
 use Rattle.mg_players.proofs.GetCausing.{heard_same}
-use Rattle.mg_players.proofs.GetSending.{IsGiving, IsNewDownload, ReadsOn, found_same, has_none, listed_same, lists_some, new_giving, new_plain, opened_new, opening_such, read_gives, read_on}
+use Rattle.mg_players.proofs.GetAdding.{adds_more, asks_answered, asks_going}
+use Rattle.mg_players.proofs.GetAsking.{FindsBy, opening_adds, opening_finds}
+use Rattle.mg_players.proofs.GetSending.{IsGiving, IsNewDownload, ReadsOn, found_same, has_none, listed_same, lists_some, new_giving, new_plain, opened_new, read_gives, read_on}
 use Rattle.mg_players.proofs.GetListed.{opened_listed, opening_listed}
 use Rattle.mg_players.proofs.GetSpared.{grows_among, lists_grow, stops_grow}
 use Rattle.mg_players.proofs.GetStopping.{ReadLeaves, read_leaves}
@@ -147,11 +150,6 @@ module _ (old new : Awaited) (log log' : LogTold) (wire : ℤ) (job : GetPlayer)
         came = subst (λ (c : List Call). (b : ClientBucket) → o.bucket ≡ Some b → OpeningCame new (past_of places (length calls) c wire) b o.id r) (same_told log' x.0 calls' x.1 told') x.3;
       }
 
-  adds_so : (r : Opened) (calls calls' : List Call) → IsOpeningFor g o → Opens old new log log' wire o r → log ≡ Some calls → log' ≡ Some calls' → Keeps calls calls' → AddsOnly (IsGetCommand g) calls calls'
-  adds_so r calls calls' aim opens told told' keeps =
-      let s = opening_such g some old new log log' wire o r aim sound opens in
-      adds_sent (IsGetCommand g) log log' s.commands s.adds s.such calls calls' told told' keeps
-
   -- its reply pends
   pub opening_waits : (opening' : OpenDownloadStream) → IsSoundFinding (finding_of opening') → finding_of opening' ≡ record o { doing = (finding_of opening').doing } → Opens old new log log' wire o (findings.waits (finding_of opening').doing)
       → OpeningCaused old new log log' wire o (findings.waits (finding_of opening').doing) → OpeningKnows old new log log' g.at o (findings.waits (finding_of opening').doing) → GetTurns old new log log' wire (record job { stage = gets.Opens opening }) (record job { stage = gets.Opens opening' })
@@ -176,12 +174,13 @@ module _ (old new : Awaited) (log log' : LogTold) (wire : ℤ) (job : GetPlayer)
             let past : Past = past_of q.now (length calls) calls' wire in
             let later : Past = sent_at (sent_since q.now (length calls) (length calls')) calls' wire in
             let here : IsOpening new past (finding_of opening') = subst (IsOpening new past) (sym same) c.came in
+            let f = opening_finds g old new log log' wire o (findings.waits doing) t.1 sound opens calls calls' told told' q.now t.3 c.keeps t.4 in
             record {
               longer = c.room;
               places = going_on q (length calls) (length calls');
-              tells = (t.0, subst (IsOpeningFor g) (sym same) (aim_same doing t.1), sound', opening_grows past later (grows_ended q.now (length calls) calls' wire) new new (finding_of opening') (λ m e. refl) here);
+              tells = (t.0, subst (IsOpeningFor g) (sym same) (aim_same doing t.1), sound', opening_grows past later (grows_ended q.now (length calls) calls' wire) new new (finding_of opening') (λ m e. refl) here, subst (λ (x : Option FileRecord). FallsAt (IsFindAt g x) calls' 5 (sent_since q.now (length calls) (length calls')) (finding_places doing)) f.by f.falls);
               extends = extends_going q job.done job.done (length calls) (length calls') refl c.room;
-              adds = adds_so (findings.waits doing) calls calls' t.1 opens told told' c.keeps;
+              adds = opening_adds g old new log log' wire o (findings.waits doing) t.1 sound opens calls calls' told told' q.now t.3 some c.keeps;
             };
       }
 
@@ -195,12 +194,13 @@ module _ (old new : Awaited) (log log' : LogTold) (wire : ℤ) (job : GetPlayer)
         (x.0, x.1, record { place = at; placed = refl; owner = nobody; plays = record { knows = tt; owns = refl }; passes = subst (λ (y : Owner). Passes calls x.0 y nobody) (sym k.owns) x.2 });
     told = λ calls calls' told told' q at at' placed k t.
         let c = came_to (findings.fails e) calls calls' told told' q.now t.3 caused in
+        let f = opening_finds g old new log log' wire o (findings.fails e) t.1 sound opens calls calls' told told' q.now t.3 c.keeps t.4 in
         record {
           longer = c.room;
           places = going_on q (length calls) (length calls');
-          tells = why calls calls' q t.0 t.1 c.came o.bucket refl;
+          tells = (why calls calls' q t.0 t.1 c.came o.bucket refl, tells.in_opening t.0 first f.found (record { finds = f.falls; heard = f.heard }));
           extends = extends_going q job.done job.done (length calls) (length calls') refl c.room;
-          adds = adds_so (findings.fails e) calls calls' t.1 opens told told' c.keeps;
+          adds = opening_adds g old new log log' wire o (findings.fails e) t.1 sound opens calls calls' told told' q.now t.3 some c.keeps;
         };
   }
     where
@@ -263,8 +263,8 @@ module _ (old new : Awaited) (log log' : LogTold) (wire : ℤ) (job : GetPlayer)
         subst (λ (n : ℕ). IsOf (sent_since q.now (length calls) (length calls')) n) same (is_since q.now (length calls) (length calls') p range.0 range.1)
 
     tells_opened : (calls calls' : List Call) (q : Places) (at : Option ℕ) → IsOpeningFor g o → length calls ≤ length calls' → IsOpening old (sent_at q.now calls wire) o → MovesTo moves calls calls' None at
-        → ((b : ClientBucket) → o.bucket ≡ Some b → OpeningCame new (past_of q.now (length calls) calls' wire) b o.id (findings.opens d)) → TellsGetOpened calls' wire (opened_by q (length calls) (length calls')) g d.file at
-    tells_opened calls calls' q at aim room h placed came =
+        → ((b : ClientBucket) → o.bucket ≡ Some b → OpeningCame new (past_of q.now (length calls) calls' wire) b o.id (findings.opens d)) → FindsBy calls' wire g (sent_since q.now (length calls) (length calls')) (findings.opens d) → TellsGetOpened calls' wire (opened_by q (length calls) (length calls')) g d.file at
+    tells_opened calls calls' q at aim room h placed came f =
         let b = bucket_opens old new log log' wire o d opens in
         let past : Past = past_of q.now (length calls) calls' wire in
         let later : Past = sent_at (sent_since q.now (length calls) (length calls')) calls' wire in
@@ -272,6 +272,8 @@ module _ (old new : Awaited) (log log' : LogTold) (wire : ℤ) (job : GetPlayer)
         record {
           heard = record_grows past later (grows_ended q.now (length calls) calls' wire) (get_bucket g.at) g.id (Some d.file) here;
           listed = opened_place calls calls' q at room h placed;
+          finds = subst (λ (x : Option FileRecord). FallsAt (IsFindAt g x) calls' 5 (sent_since q.now (length calls) (length calls')) 1) f.by f.falls;
+          more = λ place of. absurd of;
         }
 
     -- nothing of its chunks is on its way yet
@@ -289,17 +291,17 @@ module _ (old new : Awaited) (log log' : LogTold) (wire : ℤ) (job : GetPlayer)
         grows_on (past_of q.now (length calls) calls' wire) (sent_at now calls' wire) (sent_at (all_places (opened_by q (length calls) (length calls'))) calls' wire) (grows_ended q.now (length calls) calls' wire)
         (grows_among now (now ++ []) (length calls') calls' wire (λ place of. in_first now [] place of))
 
-    stage_tells : (s : GetStage) (done : ℕ) → OpensAs download s → done ≡ done_behind s job.done → (calls calls' : List Call) (q : Places) (at : Option ℕ) → GetTells old calls wire q g (gets.Opens opening) job.done None → Keeps calls calls' → AddsOnly (IsGetCommand g) calls calls' → length calls ≤ length calls'
+    stage_tells : (s : GetStage) (done : ℕ) → OpensAs download s → done ≡ done_behind s job.done → (calls calls' : List Call) (q : Places) (at : Option ℕ) → GetTells old calls wire q g (gets.Opens opening) job.done None → FindsBy calls' wire g (sent_since q.now (length calls) (length calls')) (findings.opens d) → AddsOnly (IsGetCommand g) calls calls' → length calls ≤ length calls'
         → MovesTo moves calls calls' None at → ((b : ClientBucket) → o.bucket ≡ Some b → OpeningCame new (past_of q.now (length calls) calls' wire) b o.id (findings.opens d)) → ListsIts (past_of q.now (length calls) calls' wire) g d → GetTell new calls calls' wire q job.done g s done at
-    stage_tells gets.Unsent done opens_so behind calls calls' q at t keeps adds room placed came lists = absurd opens_so
-    stage_tells (gets.Opens x) done opens_so behind calls calls' q at t keeps adds room placed came lists = absurd opens_so
-    stage_tells (gets.Reads x hand) done opens_so behind calls calls' q at t keeps adds room placed came lists =
+    stage_tells gets.Unsent done opens_so behind calls calls' q at t f adds room placed came lists = absurd opens_so
+    stage_tells (gets.Opens x) done opens_so behind calls calls' q at t f adds room placed came lists = absurd opens_so
+    stage_tells (gets.Reads x hand) done opens_so behind calls calls' q at t f adds room placed came lists =
         let q' : Places = opened_by q (length calls) (length calls') in
         record {
           longer = room;
           places = q';
           tells = subst (λ (y : GridFsDownloadStream). GetTells new calls' wire q' g (gets.Reads y hand) done at) (sym opens_so) (
-            tells_opened calls calls' q at t.1 room t.3 placed came,
+            tells_opened calls calls' q at t.1 room t.3 placed came f,
             omega (arith, behind, first),
             new_fetching (sent_at q'.now calls' wire) new_one,
             is_download,
@@ -309,12 +311,12 @@ module _ (old new : Awaited) (log log' : LogTold) (wire : ℤ) (job : GetPlayer)
           extends = extends_opened q job.done done (length calls) (length calls') first t.0.0 t.0.1 room;
           adds = adds;
         }
-    stage_tells (gets.Ended ended.Unfinished) done opens_so behind calls calls' q at t keeps adds room placed came lists = absurd opens_so
-    stage_tells (gets.Ended (ended.Gave x)) done opens_so behind calls calls' q at t keeps adds room placed came lists = absurd opens_so
-    stage_tells (gets.Ended (ended.Failed e)) done opens_so behind calls calls' q at t keeps adds room placed came lists = record {
+    stage_tells (gets.Ended ended.Unfinished) done opens_so behind calls calls' q at t f adds room placed came lists = absurd opens_so
+    stage_tells (gets.Ended (ended.Gave x)) done opens_so behind calls calls' q at t f adds room placed came lists = absurd opens_so
+    stage_tells (gets.Ended (ended.Failed e)) done opens_so behind calls calls' q at t f adds room placed came lists = record {
       longer = room;
       places = going_on q (length calls) (length calls');
-      tells = tells.out_of_memory (ap (λ (x : Error). x.kind) opens_so);
+      tells = (tells.out_of_memory (ap (λ (x : Error). x.kind) opens_so), tells.in_opening t.0 (behind ∙ first) f.found (record { finds = f.falls; heard = f.heard }));
       extends = extends_going q job.done done (length calls) (length calls') behind room;
       adds = adds;
     }
@@ -343,10 +345,16 @@ module _ (old new : Awaited) (log log' : LogTold) (wire : ℤ) (job : GetPlayer)
           let c = came_to (findings.opens d) calls calls' told told' q.now t.3 caused in
           let b = bucket_opens old new log log' wire o d opens in
           let lists = opened_listed g b.0 (t.1.placed b.0 b.1) (past_of q.now (length calls) calls' wire) d (new_plain d new_one) (opening_listed old new log log' wire o d sound opens calls told q.now t.3 b.0 b.1 calls' told') in
-          stage_tells s after.done opens_so behind calls calls' q at' t c.keeps (adds_so (findings.opens d) calls calls' t.1 opens told told' c.keeps) c.room placed c.came lists;
+          let f = opening_finds g old new log log' wire o (findings.opens d) t.1 sound opens calls calls' told told' q.now t.3 c.keeps t.4 in
+          let adds = opening_adds g old new log log' wire o (findings.opens d) t.1 sound opens calls calls' told told' q.now t.3 some c.keeps in
+          stage_tells s after.done opens_so behind calls calls' q at' t f adds c.room placed c.came lists;
     }
 
 -- ---- before it
+
+-- nothing was asked for
+none_asked : (calls : List Call) (g : GetTask) (q : Places) → q.now ≡ [] → (m : ℕ) → m ≤ 5 → FallsAt (IsFindAt g None) calls 5 q.now m
+none_asked calls g q none m less = subst (λ (l : List ℕ). FallsAt (IsFindAt g None) calls 5 l m) (sym none) (falls_none (IsFindAt g None) calls 5 m less)
 
 -- A new opening goes on from where nothing was asked for.
 pub opening_begins : (old new : Awaited) (log log' : LogTold) (wire : ℤ) (job after : GetPlayer) (opening : OpenDownloadStream) → IsOpeningFor (sought job.what) (finding_of opening) → (finding_of opening).doing ≡ findings.starts → IsSoundFinding (finding_of opening)
@@ -362,17 +370,23 @@ opening_begins old new log log' wire job after opening aim new_one sound rest =
             owns = k.owns ∙ ap (looking_owner old) (sym new_one);
           });
       told = λ calls calls' told told' q at at' placed k t.
-          rest.told calls calls' told told' q at at' placed (aim, record { placed = aim.placed; by = subst (LookingKnown old calls g.at o.id) (sym new_one) tt }, k.0, k.1) (t.0, aim, sound, λ b is. subst (LookingUnderway old (sent_at q.now calls wire) b o.id) (sym new_one) tt);
+          rest.told calls calls' told told' q at at' placed (aim, record { placed = aim.placed; by = subst (LookingKnown old calls g.at o.id) (sym new_one) tt }, k.0, k.1) (
+            t.0,
+            aim,
+            sound,
+            λ b is. subst (LookingUnderway old (sent_at q.now calls wire) b o.id) (sym new_one) tt,
+            subst (FindsSoFar calls g q.now) (sym new_one) (none_asked calls g q t.1 5 (omega arith)),
+          );
     }
 
 -- It fails before it has asked for anything.
-pub fails_unsent : (awaited : Awaited) (log : LogTold) (wire : ℤ) (job : GetPlayer) (e : Error) → ((calls : List Call) (q : Places) → TellsGetFails calls wire q (sought job.what) job.done e) → GetTurns awaited awaited log log wire (record job { stage = gets.Unsent }) (record job { stage = gets.Ended (ended.Failed e) })
-fails_unsent awaited log wire job e why = record {
+pub fails_unsent : (awaited : Awaited) (log : LogTold) (wire : ℤ) (job : GetPlayer) (e : Error) → job.done ≡ 0 → ((calls : List Call) (q : Places) → TellsGetFails calls wire q (sought job.what) job.done e) → GetTurns awaited awaited log log wire (record job { stage = gets.Unsent }) (record job { stage = gets.Ended (ended.Failed e) })
+fails_unsent awaited log wire job e first why = record {
   next = no_move;
   turned = λ calls told own at k. (calls, told, record { place = at; placed = refl; owner = nobody; plays = record { knows = tt; owns = refl }; passes = subst (λ (y : Owner). Passes calls calls y nobody) (sym k.owns) (passes_same calls nobody (holds_nobody calls)) });
   told = λ calls calls' told told' q at at' placed k t.
       subst (λ (c : List Call). GetTell awaited calls c wire q job.done (sought job.what) (gets.Ended (ended.Failed e)) job.done at') (same_told log calls calls' told told')
-      (record { longer = omega arith; places = q; tells = why calls q; extends = extends_same q job.done job.done (length calls) refl; adds = adds_none (IsGetCommand (sought job.what)) calls });
+      (record { longer = omega arith; places = q; tells = (why calls q, tells.in_opening t.0 first None (record { finds = none_asked calls (sought job.what) q t.1 1 (omega arith); heard = λ f is. let bad : None ≡ Some f = is in absurd cc })); extends = extends_same q job.done job.done (length calls) refl; adds = adds_none (IsGetCommand (sought job.what)) calls });
 }
 
 -- ---- a read
@@ -391,8 +405,8 @@ module _ (old new : Awaited) (log log' : LogTold) (wire : ℤ) (job : GetPlayer)
   abbrev before : ClientDownload
   before = download_of download
 
-  on_it : AsksPlainly before → ReadsOn task log log' before d'
-  on_it plain = read_on task some old new log log' wire (length hand.items) before d' given r sound.between.sound plain reads_so
+  on_it : AsksPlainly before → ReadsOn log log' before d'
+  on_it plain = read_on old new log log' wire (length hand.items) before d' given r sound.between.sound plain reads_so
 
   abbrev Told : List Call → Places → Option ℕ → Type 0
   Told calls q at = GetTells old calls wire q task (gets.Reads download hand) job.done at
@@ -402,6 +416,7 @@ module _ (old new : Awaited) (log log' : LogTold) (wire : ℤ) (job : GetPlayer)
     keeps : Keeps calls calls'
     room : length calls ≤ length calls'
     came : files.ReadCame new (past_of q.now (length calls) calls' wire) before d' r
+    more : AddsOnly AsksForMore calls calls'
     adds : AddsOnly (IsGetCommand task) calls calls'
 
   come_to : (calls calls' : List Call) → log ≡ Some calls → log' ≡ Some calls' → (q : Places) (at : Option ℕ) → Told calls q at → ReadCome calls calls' q
@@ -409,11 +424,13 @@ module _ (old new : Awaited) (log log' : LogTold) (wire : ℤ) (job : GetPlayer)
       let x = caused calls told q.now t.2 in
       let keeps = keeps_to log' calls x.0 calls' x.1 told' x.2 in
       let s = (on_it t.4).such in
+      let more : AddsOnly AsksForMore calls calls' = adds_sent AsksForMore log log' s.commands s.adds s.such calls calls' told told' keeps in
       record {
         keeps = keeps;
         room = keeps_longer calls calls' keeps;
         came = subst (λ (c : List Call). files.ReadCame new (past_of q.now (length calls) c wire) before d' r) (same_told log' x.0 calls' x.1 told') x.3;
-        adds = adds_sent (IsGetCommand task) log log' s.commands s.adds s.such calls calls' told told' keeps;
+        more = more;
+        adds = adds_more task some calls calls' more;
       }
 
   -- how its cursor stands behind it, or why it failed
@@ -427,13 +444,16 @@ module _ (old new : Awaited) (log log' : LogTold) (wire : ℤ) (job : GetPlayer)
       subst (λ (l : List ℕ). ReadLeaves (sent_at l calls' wire) calls' task before.file k.0 d' r) (sym whole)
       (leaves_grow (past_of all (length calls) calls' wire) (sent_at (sent_since all (length calls) (length calls')) calls' wire) (grows_ended all (length calls) calls' wire) (onward_refl calls' nobody) calls' task before.file k.0 d' r here)
 
-  -- what its opening heard is told so by a later log, whatever else was sent
-  still_opened : (calls calls' : List Call) (q q' : Places) (f f' : FileRecord) (at : Option ℕ) → Keeps calls calls' → q'.opened ≡ q.opened → f' ≡ f → TellsGetOpened calls wire q task f at → TellsGetOpened calls' wire q' task f' at
-  still_opened calls calls' q q' f f' at keeps same file t = record {
+  -- what its opening heard is told so by a later log, where more chunks were asked for
+  still_opened : (calls calls' : List Call) (q q' : Places) (f f' : FileRecord) (at : Option ℕ) → Keeps calls calls' → q'.opened ≡ q.opened → f' ≡ f → (AskForMore calls (concat q.owns ++ q.now) → AskForMore calls' (concat q'.owns ++ q'.now)) → TellsGetOpened calls wire q task f at → TellsGetOpened calls' wire q' task f' at
+  still_opened calls calls' q q' f f' at keeps same file asks t = record {
     heard = subst (λ (x : FileRecord). HeardRecord (sent_at q'.opened calls' wire) (get_bucket task.at) task.id (Some x)) (sym file)
         (subst (λ (l : List ℕ). HeardRecord (sent_at l calls' wire) (get_bucket task.at) task.id (Some f)) (sym same)
         (record_grows (sent_at q.opened calls wire) (sent_at q.opened calls' wire) (grows_later q.opened calls calls' wire keeps) (get_bucket task.at) task.id (Some f) t.heard));
     listed = λ place is. subst (λ (l : List ℕ). IsOf l place) (sym same) (t.listed place is);
+    finds = subst (λ (x : FileRecord). FallsAt (IsFindAt task (Some x)) calls' 5 q'.opened 1) (sym file)
+        (subst (λ (l : List ℕ). FallsAt (IsFindAt task (Some f)) calls' 5 l 1) (sym same) (falls_later (IsFindAt task (Some f)) calls calls' 5 q.opened 1 keeps t.finds));
+    more = asks t.more;
   }
 
 -- its reply pends
@@ -458,7 +478,7 @@ read_waits old new log log' wire job download hand sound some download' hand' gi
             longer = c.room;
             places = q';
             tells = (
-              subst (λ (x : Option ℕ). TellsGetOpened calls' wire q' g d'.file x) (sym placed) (still_opened old new log log' wire job download hand sound some d' read.Pending given reads_so caused calls calls' q q' d.file d'.file at c.keeps refl on.file t.0),
+              subst (λ (x : Option ℕ). TellsGetOpened calls' wire q' g d'.file x) (sym placed) (still_opened old new log log' wire job download hand sound some d' read.Pending given reads_so caused calls calls' q q' d.file d'.file at c.keeps refl on.file (asks_going calls calls' c.room q c.more) t.0),
               t.1,
               fetching_grows past (sent_at q'.now calls' wire) (grows_ended q.now (length calls) calls' wire) new new d' (λ m e. refl) c.came,
               sound',
@@ -485,12 +505,16 @@ read_fails old new log log' wire job download hand sound some d' now given e rea
           let c = come_to old new log log' wire job download hand sound some d' (read.Failed e) given reads_so caused calls calls' told told' q at t in
           let q' : Places = going_on q (length calls) (length calls') in
           let past : Past = past_of q.now (length calls) calls' wire in
+          let still = still_opened old new log log' wire job download hand sound some d' (read.Failed e) given reads_so caused calls calls' q q' d.file d.file at c.keeps refl refl (asks_going calls calls' c.room q c.more) t.0 in
           record {
             longer = c.room;
             places = q';
-            tells = tells.not_read some (let count = t.1 in omega (arith, count)) d at (still_opened old new log log' wire job download hand sound some d' (read.Failed e) given reads_so caused calls calls' q q' d.file d.file at c.keeps refl refl t.0) c.came.0
-                (read_fails_grow past (sent_at q'.now calls' wire) (grows_ended q.now (length calls) calls' wire) d c.came.0 e c.came.2) c.came.1 sound.between.sound t.4 t.1 k.0 (t.0.listed k.0 k.2)
-                (left_by old new log log' wire job download hand sound some d' (read.Failed e) given reads_so caused calls calls' told told' q q' at k t (extends_going q job.done job.done (length calls) (length calls') refl c.room).whole);
+            tells = (
+              tells.not_read some (let count = t.1 in omega (arith, count)) d at still c.came.0
+                  (read_fails_grow past (sent_at q'.now calls' wire) (grows_ended q.now (length calls) calls' wire) d c.came.0 e c.came.2) c.came.1 sound.between.sound t.4 t.1 k.0 (t.0.listed k.0 k.2)
+                  (left_by old new log log' wire job download hand sound some d' (read.Failed e) given reads_so caused calls calls' told told' q q' at k t (extends_going q job.done job.done (length calls) (length calls') refl c.room).whole),
+              tells.behind_it d.file at still t.1,
+            );
             extends = extends_going q job.done job.done (length calls) (length calls') refl c.room;
             adds = c.adds;
           };
@@ -531,7 +555,7 @@ module _ (old new : Awaited) (log log' : LogTold) (wire : ℤ) (job after : GetP
   gives_so : 0 < count → IsGiving (download_of download').doing
   gives_so more = read_gives old new log log' wire (length hand.items) (download_of download) (download_of download') given (read.Read count) reads_so count more refl
 
-  on_this : AsksPlainly (download_of download) → ReadsOn aim log log' (download_of download) (download_of download')
+  on_this : AsksPlainly (download_of download) → ReadsOn log log' (download_of download) (download_of download')
   on_this plain = on_it old new log log' wire job download hand sound some (download_of download') (read.Read count) given reads_so caused plain
 
   kept_knows : (s : GetStage) → KeepsRead download' hand' count job.bytes.items after.bytes.items s → (calls : List Call) (at : Option ℕ) (listed : ℕ) → KnowsDownload new calls aim.at aim.id (download_of download') (job.bytes.items ++ take count hand'.items) listed → at ≡ Some listed → ((download_of download).doing ≡ downloads.spoiled → ⊥)
@@ -567,7 +591,7 @@ module _ (old new : Awaited) (log log' : LogTold) (wire : ℤ) (job after : GetP
         longer = c.room;
         places = q';
         tells = subst (λ (y : GridFsDownloadStream). GetTells new calls' wire q' aim (gets.Reads y room) after.done at) (sym keeps.1) (
-          still_opened old new log log' wire job download hand sound some (download_of download') (read.Read count) given reads_so caused calls calls' q q' (download_of download).file (download_of download').file at c.keeps refl on.file t.0,
+          still_opened old new log log' wire job download hand sound some (download_of download') (read.Read count) given reads_so caused calls calls' q q' (download_of download).file (download_of download').file at c.keeps refl on.file (asks_answered calls calls' c.room q c.more) t.0,
           omega (arith, more, counted, behind),
           giving_fetching new (sent_at q'.now calls' wire) (download_of download') (download_of download').doing sound'.between.sound.by (gives_so keeps.0),
           sound',
@@ -585,16 +609,19 @@ module _ (old new : Awaited) (log log' : LogTold) (wire : ℤ) (job after : GetP
       record {
         longer = c.room;
         places = q';
-        tells = (some, f, still_opened old new log log' wire job download hand sound some (download_of download') (read.Read count) given reads_so caused calls calls' q q' f f at c.keeps refl refl t.0, t.1 ∙ sym behind);
+        tells = (some, f, still_opened old new log log' wire job download hand sound some (download_of download') (read.Read count) given reads_so caused calls calls' q q' f f at c.keeps refl refl (asks_going calls calls' c.room q c.more) t.0, t.1 ∙ sym behind);
         extends = extends_going q job.done after.done (length calls) (length calls') behind c.room;
         adds = c.adds;
       }
   kept_tells (gets.Ended (ended.Failed e)) keeps behind calls calls' told told' q at k t =
       let c = come_to old new log log' wire job download hand sound some (download_of download') (read.Read count) given reads_so caused calls calls' told told' q at t in
+      let q' : Places = going_on q (length calls) (length calls') in
+      let f : FileRecord = (download_of download).file in
+      let still = still_opened old new log log' wire job download hand sound some (download_of download') (read.Read count) given reads_so caused calls calls' q q' f f at c.keeps refl refl (asks_going calls calls' c.room q c.more) t.0 in
       record {
         longer = c.room;
-        places = going_on q (length calls) (length calls');
-        tells = tells.out_of_memory (ap (λ (x : Error). x.kind) keeps.1.1);
+        places = q';
+        tells = (tells.out_of_memory (ap (λ (x : Error). x.kind) keeps.1.1), tells.behind_it f at still (t.1 ∙ sym behind));
         extends = extends_going q job.done after.done (length calls) (length calls') behind c.room;
         adds = c.adds;
       }

@@ -202,11 +202,11 @@ number_at_stage calls (stage.Closes closing) k c done last same at = inl (omega 
 number_at_stage calls stage.Ended k c done last same at = inr refl
 
 -- so does a get
-get_number_at : (s : GetStage) (bytes done k : ℕ) (last : Bool) → GetStageAt s bytes done k last → (done ≡ k) ⊎ (gets_ended s ≡ true)
-get_number_at gets.Unsent bytes done k last at = inl (at.1 ∙ sym at.0)
-get_number_at (gets.Opens opening) bytes done k last at = inl (at.1 ∙ sym at.0)
-get_number_at (gets.Reads download room) bytes done k last at = inl (sym at.0)
-get_number_at (gets.Ended e) bytes done k last at = inr refl
+get_number_at : (s : GetStage) (bytes done k read : ℕ) (last : Bool) → GetStageAt s bytes done k last read → (done ≡ k) ⊎ (gets_ended s ≡ true)
+get_number_at gets.Unsent bytes done k read last at = inl (at.1 ∙ sym at.0)
+get_number_at (gets.Opens opening) bytes done k read last at = inl (at.1 ∙ sym at.0)
+get_number_at (gets.Reads download room) bytes done k read last at = inl (sym at.0)
+get_number_at (gets.Ended e) bytes done k read last at = inr refl
 
 -- a put goes on where it was after so many turns, unless it has ended
 put_number_at : (calls : ℕ) (s : PutStage) (made count k : ℕ) (last : Bool) → PutAt calls s made count k last → (put_number made s ≡ k) ⊎ (puts_ended s ≡ true)
@@ -220,4 +220,4 @@ pub number_at : (calls : ℕ) (p : Player) (done : ℕ) (last : Bool) → IsAt c
 number_at calls (player.Insert job) done last at = none_done job.stage done last at
 number_at calls (player.Follow job) done last at = number_at_stage calls job.stage (kept job) (came job) done last refl at
 number_at calls (player.Put job) done last at = put_number_at calls job.stage job.done (length job.what.pieces.now) done last at
-number_at calls (player.Get job) done last at = get_number_at job.stage (length job.bytes.items) job.done done last at
+number_at calls (player.Get job) done last at = get_number_at job.stage (length job.bytes.items) job.done done job.what.read last at

@@ -7,6 +7,8 @@ pub mod GetGoing
 pub mod GetOpening
 pub mod GetSending
 pub mod GetCausing
+pub mod GetAsking
+pub mod GetAdding
 pub mod GetTurning
 pub mod GetSpared
 pub mod GetSteps

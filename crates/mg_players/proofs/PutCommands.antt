@@ -1,11 +1,11 @@
 -- The commands of a put, as more are sent.
-use Rattle.std.proofs.Common.{◌≡◌, ◌≢◌, ◌⊎◌, ◌<◌, ◌≤◌, ℕ, zero, suc, ℤ, Bool, true, false, List, [], ◌∷◌, ◌++◌, length, Option, Some, None, refl, sym, ap, ap₂, ◌∙◌, subst, inl, inr, arith, append-nil, append_assoc}
+use Rattle.std.proofs.Common.{◌≡◌, ◌≢◌, ◌⊎◌, ◌<◌, ◌≤◌, ℕ, suc, ℤ, Bool, true, false, List, [], ◌∷◌, ◌++◌, Option, Some, None, refl, sym, ap, ap₂, ◌∙◌, subst, inl, inr, arith, append-nil, append_assoc}
 use Rattle.std.proofs.lemmas.List.{map-append}
 use Rattle.std.specs.Prelude.{slice_get}
 use Rattle.mg_bson.specs.Raw.{fields}
 use Rattle.mg_bson.specs.Tree.{Fields}
 use Rattle.mg_link.specs.Calls.{AddsOnly}
-use Rattle.mg_link.specs.Exec.{Attempt, Begins, GoesOn, Runs, Sending, Stage, Tries, answered, first, not_sent, second, ticket_at, ticket_of, unsent, waits}
+use Rattle.mg_link.specs.Exec.{Attempt, Begins, GoesOn, Runs, Sending, Stage, Tries, answered, first, not_sent, second, ticket_at, unsent, waits}
 use Rattle.mg_link.specs.Link.{Adds, Awaited, LogTold, Sees}
 use Rattle.mg_link.specs.Log.{Call, Sight, reply, see, waiting}
 use Rattle.mg_link.specs.declared.action.Step.{Step}

@@ -33,7 +33,7 @@ since_on places from mid upto room room' =
 
 -- ---- what a turn does to them
 
-concat_more : (xss : List (List ℕ)) (ys : List ℕ) → concat (xss ++ ys ∷ []) ≡ concat xss ++ ys
+pub concat_more : (xss : List (List ℕ)) (ys : List ℕ) → concat (xss ++ ys ∷ []) ≡ concat xss ++ ys
 concat_more [] ys = append-nil ys
 concat_more (xs ∷ xss) ys = ap (λ (l : List ℕ). xs ++ l) (concat_more xss ys) ∙ sym (append_assoc xs (concat xss) ys)
 

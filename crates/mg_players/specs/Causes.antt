@@ -1,5 +1,5 @@
 -- What the answers of jobs are caused by, and what jobs wait for: by the turns in which they sent their commands.
-use Rattle.std.specs.Prelude.{◌≡◌, ◌↔◌, ◌⊎◌, ◌<◌, ◌≤◌, ◌+◌, ◌-◌, ◌++◌, IsTrue, false, true, Bool, cond, nat_eq, ℕ, zero, suc, ℤ, List, [], ◌∷◌, length, Option, Some, None, slice_get, IsSome}
+use Rattle.std.specs.Prelude.{◌≡◌, ◌↔◌, ◌⊎◌, ◌<◌, ◌≤◌, ◌+◌, ◌-◌, ◌*◌, ◌++◌, IsTrue, false, true, Bool, cond, nat_eq, ℕ, zero, suc, ℤ, List, [], ◌∷◌, length, Option, Some, None, slice_get, IsSome}
 use Rattle.std.specs.List.{concat, sum_by}
 use Rattle.mg_bson.specs.Tree.{Tree, Fields}
 use Rattle.mg_bson.specs.Raw.{fields}
@@ -31,7 +31,7 @@ use Rattle.mg_ops.specs.Appended.{Appended}
 use Rattle.mg_players.specs.Counts.{PolledBy, one_if}
 use Rattle.mg_players.specs.Drawing.{as_sent}
 use Rattle.mg_players.specs.Follows.{FollowedFrom, IsArgsFor, IsUnfinished, poll_of}
-use Rattle.mg_players.specs.Gets.{AsksPlainly, GetTask, chunks_find, get_bucket, get_of, more_chunks, no_room, record_find}
+use Rattle.mg_players.specs.Gets.{AsksForMore, AsksPlainly, GetTask, IsFindAt, chunks_find, get_bucket, get_of, more_chunks, no_room, record_find, room_of}
 use Rattle.mg_gridfs.specs.Buckets.{IsSize}
 use Rattle.mg_gridfs.specs.Causes.{IsUploading}
 use Rattle.mg_gridfs.specs.Storing.{HasCleared, HasStored}
@@ -260,19 +260,37 @@ FollowCaused awaited c i count calls wire on start filter batch (ended.Failed e)
 
 -- ---- a get
 
--- its opening heard this record
+-- An opening sent at these places just the find of the record, at most twice, and then, where a record was found, which it heard, that of the chunks of this
+-- file, at most twice.
+pub record OpeningAsks (calls : List Call) (wire : ℤ) (g : GetTask) (found : Option FileRecord) (places : List ℕ) : Type 0 where
+  pub finds : FallsAt (IsFindAt g found) calls 5 places 1
+  pub heard : (f : FileRecord) → found ≡ Some f → HeardRecord (sent_at places calls wire) (get_bucket g.at) g.id (Some f)
+
+-- at each of these places of the log stands a command that asks for more chunks
+abbrev pub AskForMore : List Call → List ℕ → Type 0
+AskForMore calls places = (place : ℕ) → IsOf places place → (call : Call) × (slice_get calls place ≡ Some call) × AsksForMore (fields call.command)
+
+-- its opening heard this record, and listed the chunks of no other file
 pub record GetOpened (c : Course) (i : ℕ) (calls : List Call) (wire : ℤ) (g : GetTask) (f : FileRecord) : Type 0 where
   pub places : List ℕ
   pub sent : AllSentIn c i 0 places
   pub heard : HeardRecord (sent_at places calls wire) (get_bucket g.at) g.id (Some f)
+  pub finds : FallsAt (IsFindAt g (Some f)) calls 5 places 1
+
+-- so many calls behind an opening gave so many bytes: each gave one or more, and no more than a read has room for
+abbrev pub GaveBy : (count bytes read : ℕ) → Type 0
+GaveBy count bytes read = (count ≤ bytes) × (bytes ≤ count * room_of read)
 
 -- Its turns sent just these commands: its opening at the first places; so many calls behind it, which have ended; and what goes on, or ended it, at the last ones.
-pub record GetSent (c : Course) (i : ℕ) (opened : List ℕ) (k : ℕ) (now : List ℕ) : Type 0 where
+-- Behind its opening each of them asks for more chunks. Those calls gave all of its bytes.
+pub record GetSent (c : Course) (i : ℕ) (calls : List Call) (g : GetTask) (bytes : ℕ) (opened : List ℕ) (k : ℕ) (now : List ℕ) : Type 0 where
   pub owns : List (List ℕ)
   pub counted : length owns ≡ k
   pub sent_each : (n : ℕ) (own : List ℕ) → slice_get owns n ≡ Some own → AllSentIn c i (suc n) own
   pub sent_now : AllSentIn c i (suc k) now
   pub whole : opened ++ (concat owns ++ now) ≡ places_of c i
+  pub more : AskForMore calls (concat owns ++ now)
+  pub gave : GaveBy k bytes g.read
 
 -- Why a read of the file with this record failed, by all that the get sent: its opening listed the chunks at this place.
 pub record GetStopped (c : Course) (i : ℕ) (calls : List Call) (wire : ℤ) (g : GetTask) (f : FileRecord) (e : Error) : Type 0 where
@@ -283,31 +301,32 @@ pub record GetStopped (c : Course) (i : ℕ) (calls : List Call) (wire : ℤ) (g
   pub why : ReadStops (sent_at places calls wire) (SparesWhole calls g.at g.id f listed) e
 
 -- Why a get fails: memory ran out; a read is to have no room, and then it may send nothing; its opening fails, for which all was sent; or a read of the file whose
--- record the opening heard, which asks for more chunks by its own cursor, without options, and behind which nothing was sent.
-pub data GetFails (c : Course) (i : ℕ) (calls : List Call) (wire : ℤ) (g : GetTask) (e : Error) : Type 0 where
-  out_of_memory : e.kind ≡ kind.OutOfMemory → GetFails c i calls wire g e
-  has_no_room : g.read ≡ 0 → e ≡ no_room → GetFails c i calls wire g e
-  not_opened : 0 < g.read → (places : List ℕ) → AllSentIn c i 0 places → files.OpeningFails (sent_at places calls wire) (get_bucket g.at) g.id e → places ≡ places_of c i → GetFails c i calls wire g e
-  not_read : 0 < g.read → (d : ClientDownload) (opened : GetOpened c i calls wire g d.file) (k : ℕ) (places : List ℕ) → AllSentIn c i (suc k) places → (cursor : ClientCursor) → ReadFails (sent_at places calls wire) d cursor e
-      → cursor_in d.doing ≡ Some cursor → IsSoundDownload d → AsksPlainly d → GetSent c i opened.places k places → GetStopped c i calls wire g d.file e → GetFails c i calls wire g e
+-- record the opening heard, which asks for more chunks by its own cursor, without options, and behind which nothing was sent: that of the first turn that did not
+-- pend behind so many calls.
+pub data GetFails (c : Course) (i : ℕ) (calls : List Call) (wire : ℤ) (g : GetTask) (bytes : ℕ) (e : Error) : Type 0 where
+  out_of_memory : e.kind ≡ kind.OutOfMemory → GetFails c i calls wire g bytes e
+  has_no_room : g.read ≡ 0 → e ≡ no_room → GetFails c i calls wire g bytes e
+  not_opened : 0 < g.read → (places : List ℕ) → AllSentIn c i 0 places → files.OpeningFails (sent_at places calls wire) (get_bucket g.at) g.id e → places ≡ places_of c i → GetFails c i calls wire g bytes e
+  not_read : 0 < g.read → (d : ClientDownload) (opened : GetOpened c i calls wire g d.file) (k : ℕ) → suc (suc k) ≤ turns_done i c.order c.notes → (places : List ℕ) → AllSentIn c i (suc k) places → (cursor : ClientCursor) → ReadFails (sent_at places calls wire) d cursor e
+      → cursor_in d.doing ≡ Some cursor → IsSoundDownload d → AsksPlainly d → GetSent c i calls g bytes opened.places k places → GetStopped c i calls wire g d.file e → GetFails c i calls wire g bytes e
 
 -- What a get waits for: the record, or the list of the chunks of the record that was heard, for which all was sent; or more of them.
-pub data GetWaits (awaited : Awaited) (c : Course) (i : ℕ) (calls : List Call) (wire : ℤ) (g : GetTask) : Type 0 where
-  for_record : (places : List ℕ) → AllSentIn c i 0 places → IsAwaited awaited (sent_at places calls wire) (record_find g) → places ≡ places_of c i → GetWaits awaited c i calls wire g
-  for_chunks : (places : List ℕ) → AllSentIn c i 0 places → (f : FileRecord) → HeardRecord (sent_at places calls wire) (get_bucket g.at) g.id (Some f) → IsAwaited awaited (sent_at places calls wire) (chunks_find g f.id) → places ≡ places_of c i → GetWaits awaited c i calls wire g
+pub data GetWaits (awaited : Awaited) (c : Course) (i : ℕ) (calls : List Call) (wire : ℤ) (g : GetTask) (bytes : ℕ) : Type 0 where
+  for_record : (places : List ℕ) → AllSentIn c i 0 places → IsAwaited awaited (sent_at places calls wire) (record_find g) → places ≡ places_of c i → GetWaits awaited c i calls wire g bytes
+  for_chunks : (places : List ℕ) → AllSentIn c i 0 places → (f : FileRecord) → HeardRecord (sent_at places calls wire) (get_bucket g.at) g.id (Some f) → IsAwaited awaited (sent_at places calls wire) (chunks_find g f.id) → places ≡ places_of c i → GetWaits awaited c i calls wire g bytes
   for_more : (k : ℕ) (places : List ℕ) → AllSentIn c i (suc k) places → (cursor : ℤ) (space : Space) → IsAwaited awaited (sent_at places calls wire) (more_chunks cursor space)
-      → (f : FileRecord) (opened : GetOpened c i calls wire g f) → GetSent c i opened.places k places → GetWaits awaited c i calls wire g
+      → (f : FileRecord) (opened : GetOpened c i calls wire g f) → GetSent c i calls g bytes opened.places k places → GetWaits awaited c i calls wire g bytes
 
--- what a get sent that has not ended: nothing, or commands of its opening; or its opening heard a record
-pub data GetStands (c : Course) (i : ℕ) (calls : List Call) (wire : ℤ) (g : GetTask) : Type 0 where
-  unopened : AllSentIn c i 0 (places_of c i) → GetStands c i calls wire g
-  has_opened : (f : FileRecord) (opened : GetOpened c i calls wire g f) (k : ℕ) (places : List ℕ) → GetSent c i opened.places k places → GetStands c i calls wire g
+-- what a get sent that has not ended, or that failed: commands of its opening, if any, and it gave no byte; or its opening heard a record
+pub data GetStands (c : Course) (i : ℕ) (calls : List Call) (wire : ℤ) (g : GetTask) (bytes : ℕ) : Type 0 where
+  unopened : bytes ≡ 0 → AllSentIn c i 0 (places_of c i) → (found : Option FileRecord) → OpeningAsks calls wire g found (places_of c i) → GetStands c i calls wire g bytes
+  has_opened : (f : FileRecord) (opened : GetOpened c i calls wire g f) (k : ℕ) (places : List ℕ) → GetSent c i calls g bytes opened.places k places → GetStands c i calls wire g bytes
 
 -- where its newest turn pended and it has not ended, it waits; where it ended well, its opening heard a record
-abbrev pub GetCaused : {A : Type 0} → Awaited → Course → ℕ → List Call → ℤ → GetTask → Ended A → Type 0
-GetCaused awaited c i calls wire g ended.Unfinished = (pends_last i c.order c.notes ≡ true → GetWaits awaited c i calls wire g) × GetStands c i calls wire g
-GetCaused awaited c i calls wire g (ended.Gave x) = (0 < g.read) × (f : FileRecord) × (opened : GetOpened c i calls wire g f) × (k : ℕ) × (places : List ℕ) × GetSent c i opened.places k places
-GetCaused awaited c i calls wire g (ended.Failed e) = GetFails c i calls wire g e
+abbrev pub GetCaused : {A : Type 0} → Awaited → Course → ℕ → List Call → ℤ → GetTask → ℕ → Ended A → Type 0
+GetCaused awaited c i calls wire g bytes ended.Unfinished = (pends_last i c.order c.notes ≡ true → GetWaits awaited c i calls wire g bytes) × GetStands c i calls wire g bytes
+GetCaused awaited c i calls wire g bytes (ended.Gave x) = (0 < g.read) × (f : FileRecord) × (opened : GetOpened c i calls wire g f) × (k : ℕ) × (suc (suc k) ≤ turns_done i c.order c.notes) × (places : List ℕ) × GetSent c i calls g bytes opened.places k places
+GetCaused awaited c i calls wire g bytes (ended.Failed e) = GetFails c i calls wire g bytes e × GetStands c i calls wire g bytes
 
 -- ---- a put
 
@@ -352,7 +371,7 @@ abbrev pub OutcomeCaused : Awaited → Course → ℕ → List Call → ℤ → 
 OutcomeCaused awaited c i calls wire (follow on count start filter batch) = OfFollow (λ opened said token alive closed. FollowCaused awaited c i count calls wire on start filter batch opened said.items token alive closed)
 OutcomeCaused awaited c i calls wire (insert ns docs) = OfInsert (λ end. InsertEnds awaited c i calls wire ns docs end)
 OutcomeCaused awaited c i calls wire (put db bucket name id chunk pieces) = OfPut (λ end. PutEnds awaited c i calls wire (put_of db bucket name id chunk pieces) end)
-OutcomeCaused awaited c i calls wire (get db bucket id read) = OfGet (λ bytes end. GetCaused awaited c i calls wire (get_of db bucket id read) end)
+OutcomeCaused awaited c i calls wire (get db bucket id read) = OfGet (λ bytes end. GetCaused awaited c i calls wire (get_of db bucket id read) (length bytes.items) end)
 
 -- Over a link that tells its log and awaits these replies, each job's outcome has its causes, and what it waits for, among the commands of its own turns;
 -- inserts draw these ids.

@@ -1,5 +1,5 @@
 -- A get as its task says it, and what it knows of its file turn by turn.
-use Rattle.std.specs.Prelude.{◌≡◌, ◌≢◌, ◌<◌, ◌≤◌, ◌+◌, ◌++◌, min, ℕ, ℤ, Bool, true, false, List, [], length, take, Option, Some, None, Vec, string_bytes}
+use Rattle.std.specs.Prelude.{◌≡◌, ◌≢◌, ◌<◌, ◌≤◌, ◌+◌, ◌++◌, min, ℕ, zero, suc, ℤ, Bool, true, false, List, [], length, take, Option, Some, None, Vec, string_bytes}
 use Rattle.std.specs.declared.alloc.Global.{Global}
 use Rattle.mg_bson.specs.Tree.{Fields, Tree}
 use Rattle.mg_bson.specs.View.{tree}
@@ -24,6 +24,7 @@ use Rattle.mg_gridfs.specs.declared.download.GridFsDownloadStream.{GridFsDownloa
 use Rattle.mg_gridfs.specs.Findings.{ClientFinding, IsSoundFinding, finding_ticket}
 use Rattle.mg_cursor.specs.Client.{ClientCursor}
 use Rattle.mg_gridfs.specs.ReadCauses.{cursor_in}
+use Rattle.mg_records.specs.FileRecords.{FileRecord}
 use Rattle.mg_script.specs.declared.outcome.Ended.{Ended}
 use Rattle.mg_script.specs.declared.outcome.Ended.TheVariants as ended
 use Rattle.mg_players.specs.declared.get.GetPlayer.{GetPlayer}
@@ -91,6 +92,24 @@ pub data IsGetCommand (g : GetTask) (command : Fields) : Type 0 where
   for_record : 0 < g.read → command ≡ record_find g → IsGetCommand g command
   for_chunks : 0 < g.read → (id : Tree) → command ≡ chunks_find g id → IsGetCommand g command
   for_more : 0 < g.read → (cursor : ℤ) (space : Space) → command ≡ more_chunks cursor space → IsGetCommand g command
+
+-- asks for more chunks by some cursor
+pub record AsksForMore (command : Fields) : Type 0 where
+  pub cursor : ℤ
+  pub space : Space
+  pub asks_so : command ≡ more_chunks cursor space
+
+-- asks for the chunks of the file of this record
+abbrev pub IsListFor : GetTask → Option FileRecord → Fields → Type 0
+IsListFor g None command = ⊥
+IsListFor g (Some f) command = command ≡ chunks_find g f.id
+
+-- The places of the finds of an opening, counted down: that of the record, once more, and then that of the chunks of the file whose record was found, once more.
+abbrev pub IsFindAt : GetTask → Option FileRecord → ℕ → Fields → Type 0
+IsFindAt g found zero command = ⊥
+IsFindAt g found (suc zero) command = IsListFor g found command
+IsFindAt g found (suc (suc zero)) command = IsListFor g found command
+IsFindAt g found (suc (suc (suc place))) command = command ≡ record_find g
 
 -- the list of its chunks is asked for so
 abbrev pub AsksPlainly : ClientDownload → Type 0

@@ -1,5 +1,5 @@
 -- How far each job comes by its turns.
-use Rattle.std.specs.Prelude.{◌≡◌, ◌+◌, ◌<◌, ◌≤◌, ◌⊎◌, ℕ, Bool, true, false, cond, nat_eq, List, [], ◌∷◌, length, Option, Some, IsSome, is_some, slice_get}
+use Rattle.std.specs.Prelude.{◌≡◌, ◌+◌, ◌-◌, ◌*◌, ◌<◌, ◌≤◌, ◌⊎◌, ℕ, Bool, true, false, cond, nat_eq, List, [], ◌∷◌, length, Option, Some, IsSome, is_some, slice_get}
 use Rattle.mg_players.specs.Counts.{RoseIf}
 use Rattle.mg_change.specs.ClientStreams.{stream_ticket}
 use Rattle.mg_change.specs.ClosingStreams.{stream_closing_ticket}
@@ -7,7 +7,7 @@ use Rattle.mg_change.specs.OpeningView.{ticket_in}
 use Rattle.mg_change.specs.StreamView.{stream_of}
 use Rattle.mg_ops.specs.Inserts.{insert_ticket}
 use Rattle.mg_players.specs.Follows.{HasGiven, IsFailed, IsUnfinished}
-use Rattle.mg_players.specs.Gets.{gets_ticket}
+use Rattle.mg_players.specs.Gets.{gets_ticket, room_of}
 use Rattle.mg_players.specs.Kinds.{OfFollow, OfGet, OfInsert, OfPut}
 use Rattle.mg_gridfs.specs.Uploads.{upload_ticket}
 use Rattle.mg_gridfs.specs.UploadView.{upload_of}
@@ -85,16 +85,20 @@ GetEndedAt ended.Unfinished done k = ⊥
 GetEndedAt (ended.Gave x) done k = (1 ≤ done) × (done + 1 ≤ k)
 GetEndedAt (ended.Failed e) done k = done + 1 ≤ k
 
+-- behind so many calls, the first of which is its opening, each other one gave at most as many bytes as a read has room for
+abbrev pub FitsReads : (bytes done read : ℕ) → Type 0
+FitsReads bytes done read = bytes ≤ (done - 1) * room_of read
+
 -- A get at a stage, which gave so many bytes and had so many calls behind it that ended, after k turns that did not pend, where its newest turn pended or
--- not: it is opened in the first of them, and each of the next ones gave a byte or ended it.
-abbrev pub GetStageAt : GetStage → (bytes done : ℕ) → ℕ → Bool → Type 0
-GetStageAt gets.Unsent bytes done k last = (k ≡ 0) × (done ≡ 0) × (bytes ≡ 0) × (last ≡ false)
-GetStageAt (gets.Opens opening) bytes done k last = (k ≡ 0) × (done ≡ 0) × (bytes ≡ 0) × HoldsIf last (gets_ticket (gets.Opens opening))
-GetStageAt (gets.Reads download room) bytes done k last = (k ≡ done) × (1 ≤ done) × (done ≤ bytes + 1) × HoldsIf last (gets_ticket (gets.Reads download room))
-GetStageAt (gets.Ended end) bytes done k last = GetEndedAt end done k × (done ≤ bytes + 1) × (last ≡ false)
+-- not: it is opened in the first of them, and each of the next ones gave a byte, and no more than a read has room for, or ended it.
+abbrev pub GetStageAt : GetStage → (bytes done : ℕ) → ℕ → Bool → ℕ → Type 0
+GetStageAt gets.Unsent bytes done k last read = (k ≡ 0) × (done ≡ 0) × (bytes ≡ 0) × (last ≡ false)
+GetStageAt (gets.Opens opening) bytes done k last read = (k ≡ 0) × (done ≡ 0) × (bytes ≡ 0) × HoldsIf last (gets_ticket (gets.Opens opening))
+GetStageAt (gets.Reads download room) bytes done k last read = (k ≡ done) × (1 ≤ done) × (done ≤ bytes + 1) × HoldsIf last (gets_ticket (gets.Reads download room)) × FitsReads bytes done read
+GetStageAt (gets.Ended end) bytes done k last read = GetEndedAt end done k × (done ≤ bytes + 1) × (last ≡ false) × FitsReads bytes done read
 
 abbrev pub GetAt : GetPlayer → ℕ → Bool → Type 0
-GetAt job k last = GetStageAt job.stage (length job.bytes.items) job.done k last
+GetAt job k last = GetStageAt job.stage (length job.bytes.items) job.done k last job.what.read
 
 -- what a follow has come to: its opening and its closing, how many calls were answered, how many are left, and whether its stream has more
 pub record Came : Type 0 where
@@ -233,8 +237,8 @@ abbrev pub PutGoes : ℕ → ℕ → PutPlayer → PutPlayer → Type 0
 PutGoes before now p p' = ComesTo (λ calls k last. PutReady calls p.stage p.done (length p.what.pieces.now) k last) (λ calls k last. PutAt calls p'.stage p'.done (length p'.what.pieces.now) k last) before now
 
 -- a turn takes a get on
-abbrev pub GetGoes : ℕ → ℕ → GetStage → (bytes done : ℕ) → GetStage → (bytes' done' : ℕ) → Type 0
-GetGoes before now s bytes done s' bytes' done' = ComesTo (λ calls k last. GetStageAt s bytes done k last) (λ calls k last. GetStageAt s' bytes' done' k last) before now
+abbrev pub GetGoes : ℕ → ℕ → GetStage → (bytes done : ℕ) → GetStage → (bytes' done' : ℕ) → ℕ → Type 0
+GetGoes before now s bytes done s' bytes' done' read = ComesTo (λ calls k last. GetStageAt s bytes done k last read) (λ calls k last. GetStageAt s' bytes' done' k last read) before now
 
 -- a turn takes a job on
 abbrev pub JobGoes : ℕ → ℕ → Player → Player → Type 0
@@ -270,11 +274,11 @@ FollowPlayed (ended.Gave x) closed calls answered alive k last = OpenPlayed clos
 FollowPlayed (ended.Failed e) closed calls answered alive k last = (1 ≤ k) × (answered ≡ 0) × (alive ≡ false) × IsUnfinished closed × (last ≡ false)
 
 -- A get that is unfinished gave a byte in each turn that did not pend behind the first, and none before that; the newest turn of one that has ended did not
--- pend, and one that ended well had two or more.
-abbrev pub GetPlayed : {A : Type 0} → Ended A → (bytes k : ℕ) → Bool → Type 0
-GetPlayed ended.Unfinished bytes k last = (k ≤ bytes + 1) × (k ≡ 0 → bytes ≡ 0)
-GetPlayed (ended.Gave x) bytes k last = (2 ≤ k) × (last ≡ false)
-GetPlayed (ended.Failed e) bytes k last = (1 ≤ k) × (last ≡ false)
+-- pend, and one that ended well had two or more. In each turn behind the first it gave at most as many bytes as a read has room for.
+abbrev pub GetPlayed : {A : Type 0} → Ended A → (bytes k : ℕ) → Bool → ℕ → Type 0
+GetPlayed ended.Unfinished bytes k last read = (k ≤ bytes + 1) × (k ≡ 0 → bytes ≡ 0) × FitsReads bytes k read
+GetPlayed (ended.Gave x) bytes k last read = (2 ≤ k) × (last ≡ false) × FitsReads bytes k read
+GetPlayed (ended.Failed e) bytes k last read = (1 ≤ k) × (last ≡ false) × FitsReads bytes k read
 
 -- a put is unfinished just where none of its calls failed and it had fewer turns that did not pend than one for its opening, one for each piece, and one for
 -- its end; the newest turn of one that has ended did not pend
@@ -288,7 +292,7 @@ abbrev pub IsPlayed : Task → ℕ → Bool → Outcome → Type 0
 IsPlayed (insert ns docs) k last = OfInsert (λ e. InsertPlayed e k last)
 IsPlayed (follow on calls start filter batch) k last = OfFollow (λ opened said token alive closed. FollowPlayed opened closed calls (length said.items) alive k last)
 IsPlayed (put db bucket name id chunk pieces) k last = OfPut (λ e. PutPlayed e (length pieces) k last)
-IsPlayed (get db bucket id read) k last = OfGet (λ bytes e. GetPlayed e (length bytes.items) k last)
+IsPlayed (get db bucket id read) k last = OfGet (λ bytes e. GetPlayed e (length bytes.items) k last read)
 
 -- each job's outcome is what its turns brought
 abbrev pub AllPlayed : List Task → List ℕ → List Turned → List Outcome → Type 0

@@ -1,6 +1,6 @@
 -- What a job can tell, turn by turn, of what its answers are caused by.
 use Rattle.std.specs.Prelude.{◌≡◌, ◌↔◌, ◌⊎◌, ◌+◌, ◌≤◌, ◌++◌, IsTrue, Bool, true, ℕ, suc, ℤ, List, [], length, Option, Some, None, slice_get, ◌<◌}
-use Rattle.std.specs.List.{sum_by}
+use Rattle.std.specs.List.{concat, sum_by}
 use Rattle.mg_bson.specs.Tree.{Fields, Tree}
 use Rattle.mg_link.specs.Calls.{Past, past_of, AddsOnly}
 use Rattle.mg_link.specs.Link.{Awaited, LogTold}
@@ -18,21 +18,22 @@ use Rattle.mg_change.specs.OpenedStreams.{IsOpening}
 use Rattle.mg_change.specs.OpeningCauses.{StreamOpened, OpeningFails, OpensSoFar}
 use Rattle.mg_change.specs.OpeningView.{IsPlainOpening, opening_of}
 use Rattle.mg_change.specs.Sent as calling
-use Rattle.mg_change.specs.Sent.{ending_places, opening_places}
+use Rattle.mg_change.specs.Sent.{ending_places, opening_places, resuming_places}
 use Rattle.mg_change.specs.StreamView.{stream_of}
-use Rattle.mg_players.specs.Causes.{Answered, AreInLog, CallFalls, ClosedBy, Course, EndsBy, EndsSent, FallsAt, KillsLast, AllSentIn, SentNoneBehind, commands_at, course, places_of, sent_at, PutEndsBy, HasWritten}
+use Rattle.mg_players.specs.Causes.{Answered, AreInLog, AskForMore, OpeningAsks, CallFalls, ClosedBy, Course, EndsBy, EndsSent, FallsAt, KillsLast, AllSentIn, SentNoneBehind, commands_at, course, places_of, sent_at, PutEndsBy, HasWritten}
 use Rattle.mg_players.specs.Follows.{FollowTurns, HasGiven, IsArgsFor, Placing, filter_in}
 use Rattle.mg_gridfs.specs.Buckets.{IsSize}
 use Rattle.mg_gridfs.specs.Causes.{IsUploading}
 use Rattle.mg_gridfs.specs.Storing.{KnowsUpload}
 use Rattle.mg_gridfs.specs.Uploads.{ClientUpload, upload_error}
 use Rattle.mg_gridfs.specs.UploadView.{upload_of}
-use Rattle.mg_players.specs.Gets.{AsksPlainly, GetKnowsAt, GetTask, IsGetCommand, IsOpeningFor, get_bucket, no_room, sought}
+use Rattle.mg_players.specs.Gets.{AsksPlainly, GetKnowsAt, GetTask, IsFindAt, IsGetCommand, IsOpeningFor, get_bucket, no_room, sought}
 use Rattle.mg_players.specs.Headline.{AllKnow, GetPlays, Plays, task_of}
 use Rattle.mg_cursor.specs.Client.{ClientCursor}
 use Rattle.mg_gridfs.specs.Downloads.{ClientDownload, IsSoundDownload}
 use Rattle.mg_gridfs.specs.DownloadView.{IsDownload, download_of, finding_of}
-use Rattle.mg_gridfs.specs.Findings.{IsSoundFinding}
+use Rattle.mg_gridfs.specs.Findings as findings
+use Rattle.mg_gridfs.specs.Findings.{IsSoundFinding, Looking}
 use Rattle.mg_gridfs.specs.ReadCauses as files
 use Rattle.mg_gridfs.specs.ReadCauses.{HeardRecord, IsFetching, ReadFails, cursor_in}
 use Rattle.mg_link.specs.Owner.{IsOf}
@@ -220,10 +221,34 @@ pub record InsertSaid (awaited : Awaited) (calls : List Call) (wire : ℤ) (q : 
 abbrev pub TellsNoCall : Places → Type 0
 TellsNoCall q = (q.opened ≡ []) × (q.owns ≡ [])
 
--- the opening sent at the places told of it: it heard this record, and listed the chunks by the call at this place
+-- the record that was found
+abbrev pub found_in : Looking → Option FileRecord
+found_in findings.starts = None
+found_in (findings.finds sending) = None
+found_in (findings.lists file count sending) = Some file
+
+-- how many places are left to an opening, of four; its last place is 1
+abbrev pub finding_places : Looking → ℕ
+finding_places findings.starts = 5
+finding_places (findings.finds sending) = suc (suc (resuming_places sending.stage))
+finding_places (findings.lists file count sending) = resuming_places sending.stage
+
+-- an opening that has come so far sent its finds at these places
+abbrev pub FindsSoFar : List Call → GetTask → List ℕ → Looking → Type 0
+FindsSoFar calls g places doing = FallsAt (IsFindAt g (found_in doing)) calls 5 places (finding_places doing)
+
+-- The opening sent at the places told of it: it heard this record, and listed the chunks of its file by the call at this place. What was sent behind it asks for
+-- more of them.
 pub record TellsGetOpened (calls : List Call) (wire : ℤ) (q : Places) (g : GetTask) (f : FileRecord) (at : Option ℕ) : Type 0 where
   pub heard : HeardRecord (sent_at q.opened calls wire) (get_bucket g.at) g.id (Some f)
   pub listed : (place : ℕ) → at ≡ Some place → IsOf q.opened place
+  pub finds : FallsAt (IsFindAt g (Some f)) calls 5 q.opened 1
+  pub more : AskForMore calls (concat q.owns ++ q.now)
+
+-- what one sent that had so many calls behind it: what goes on in its opening; or its opening, and what is behind that
+pub data TellsAsked (calls : List Call) (wire : ℤ) (q : Places) (g : GetTask) (done : ℕ) : Type 0 where
+  in_opening : TellsNoCall q → done ≡ 0 → (found : Option FileRecord) → OpeningAsks calls wire g found q.now → TellsAsked calls wire q g done
+  behind_it : (f : FileRecord) (at : Option ℕ) → TellsGetOpened calls wire q g f at → suc (length q.owns) ≡ done → TellsAsked calls wire q g done
 
 -- how a get failed that had so many calls behind it
 pub data TellsGetFails (calls : List Call) (wire : ℤ) (q : Places) (g : GetTask) (done : ℕ) (e : Error) : Type 0 where
@@ -237,12 +262,12 @@ pub data TellsGetFails (calls : List Call) (wire : ℤ) (q : Places) (g : GetTas
 abbrev pub TellsGetEnd : {A : Type 0} → List Call → ℤ → Places → GetTask → ℕ → Option ℕ → Ended A → Type 0
 TellsGetEnd calls wire q g done at ended.Unfinished = Unit {0}
 TellsGetEnd calls wire q g done at (ended.Gave x) = (0 < g.read) × (f : FileRecord) × TellsGetOpened calls wire q g f at × (suc (length q.owns) ≡ done)
-TellsGetEnd calls wire q g done at (ended.Failed e) = TellsGetFails calls wire q g done e
+TellsGetEnd calls wire q g done at (ended.Failed e) = TellsGetFails calls wire q g done e × TellsAsked calls wire q g done
 
 -- what a get can tell at each stage, where the call at this place listed its chunks
 abbrev pub GetTells : Awaited → List Call → ℤ → Places → GetTask → GetStage → ℕ → Option ℕ → Type 0
 GetTells awaited calls wire q g gets.Unsent done at = TellsNoCall q × (q.now ≡ [])
-GetTells awaited calls wire q g (gets.Opens opening) done at = TellsNoCall q × IsOpeningFor g (finding_of opening) × IsSoundFinding (finding_of opening) × files.IsOpening awaited (sent_at q.now calls wire) (finding_of opening)
+GetTells awaited calls wire q g (gets.Opens opening) done at = TellsNoCall q × IsOpeningFor g (finding_of opening) × IsSoundFinding (finding_of opening) × files.IsOpening awaited (sent_at q.now calls wire) (finding_of opening) × FindsSoFar calls g q.now (finding_of opening).doing
 GetTells awaited calls wire q g (gets.Reads download room) done at = TellsGetOpened calls wire q g (download_of download).file at × (suc (length q.owns) ≡ done) × IsFetching awaited (sent_at q.now calls wire) (download_of download) × IsDownload download × AsksPlainly (download_of download) × ListsIts (sent_at (all_places q) calls wire) g (download_of download)
 GetTells awaited calls wire q g (gets.Ended end) done at = TellsGetEnd calls wire q g done at end
 

@@ -167,12 +167,12 @@ impl<'a> GetPlayer<'a> {
 
     /// Asks for the record of the file, unless a read is to have no room.
     fn begin<L: Link>(&mut self, alloc: Global, link: &mut L) -> GetStage
-        requires { self.old.done ≡ 0 }
+        requires new { self.old.done ≡ 0 }
         ensures tickets { Tickets (L.awaited link.old) (L.awaited link.new) None (gets_ticket result) }
         ensures holds { GetStageHolds self.old.what.read result }
         ensures turned { GetTurns (L.awaited link.old) (L.awaited link.new) (L.log link.old) (L.log link.new) (L.wire link.old) (record self.old { stage = GetStage.Unsent }) (record self.new { stage = result }) }
         ensures what { self.new.what ≡ self.old.what }
-        ensures comes { GetGoes (L.pends link.old) (L.pends link.new) GetStage.Unsent (length self.old.bytes.items) self.old.done result (length self.new.bytes.items) self.new.done }
+        ensures comes { GetGoes (L.pends link.old) (L.pends link.new) GetStage.Unsent (length self.old.bytes.items) self.old.done result (length self.new.bytes.items) self.new.done self.old.what.read }
         ensures few { FewCalls result (length self.new.bytes.items) self.new.done }
         ensures later { Later (L.faults link.old) (L.faults link.new) (L.pends link.old) (L.pends link.new)
             (L.wire link.old) (L.wire link.new) (L.prompt link.old) (L.prompt link.new) }
@@ -201,7 +201,7 @@ impl<'a> GetPlayer<'a> {
         ensures holds { GetStageHolds self.old.what.read result }
         ensures turned { GetTurns (L.awaited link.old) (L.awaited link.new) (L.log link.old) (L.log link.new) (L.wire link.old) (record self.old { stage = GetStage.Opens opening }) (record self.new { stage = result }) }
         ensures what { self.new.what ≡ self.old.what }
-        ensures comes { GetGoes (L.pends link.old) (L.pends link.new) (GetStage.Opens opening) (length self.old.bytes.items) self.old.done result (length self.new.bytes.items) self.new.done }
+        ensures comes { GetGoes (L.pends link.old) (L.pends link.new) (GetStage.Opens opening) (length self.old.bytes.items) self.old.done result (length self.new.bytes.items) self.new.done self.old.what.read }
         ensures few { FewCalls result (length self.new.bytes.items) self.new.done }
         ensures later { Later (L.faults link.old) (L.faults link.new) (L.pends link.old) (L.pends link.new)
             (L.wire link.old) (L.wire link.new) (L.prompt link.old) (L.prompt link.new) }
@@ -250,7 +250,7 @@ impl<'a> GetPlayer<'a> {
         ensures holds { GetStageHolds self.old.what.read result }
         ensures turned { GetTurns (L.awaited link.old) (L.awaited link.new) (L.log link.old) (L.log link.new) (L.wire link.old) (record self.old { stage = GetStage.Reads download room }) (record self.new { stage = result }) }
         ensures what { self.new.what ≡ self.old.what }
-        ensures comes { GetGoes (L.pends link.old) (L.pends link.new) (GetStage.Reads download room) (length self.old.bytes.items) self.old.done result (length self.new.bytes.items) self.new.done }
+        ensures comes { GetGoes (L.pends link.old) (L.pends link.new) (GetStage.Reads download room) (length self.old.bytes.items) self.old.done result (length self.new.bytes.items) self.new.done self.old.what.read }
         ensures few { FewCalls result (length self.new.bytes.items) self.new.done }
         ensures later { Later (L.faults link.old) (L.faults link.new) (L.pends link.old) (L.pends link.new)
             (L.wire link.old) (L.wire link.new) (L.prompt link.old) (L.prompt link.new) }

@@ -24,18 +24,18 @@ returns-in-Ok-clause-turned g c =
     opening_begins _ _ _ _ _ c.args.self.now (record c.open.new.self { stage = c.open.result }) c.in-Ok.opening c.in-Ok.ensures.ok c.in-Ok.ensures.new c.in-Ok.ensures.sound c.open.ensures.turned
 
 pub returns-in-Err-clause-turned : goal.returns-in-Err-clause-turned
-returns-in-Err-clause-turned g c = fails_unsent _ _ _ c.args.self.now c.in-Err.error (λ calls q. tells.out_of_memory (ap (λ (e : Error). e.kind) c.in-Err.ensures.err))
+returns-in-Err-clause-turned g c = fails_unsent _ _ _ c.args.self.now c.in-Err.error c.requires.new (λ calls q. tells.out_of_memory (ap (λ (e : Error). e.kind) c.in-Err.ensures.err))
 
 pub returns-then-self-eq0-clause-turned : goal.returns-then-self-eq0-clause-turned
-returns-then-self-eq0-clause-turned g c = fails_unsent _ _ _ c.args.self.now c.plain-error.result (λ calls q. tells.has_no_room c.if-self-eq0.true c.plain-error.ensures)
+returns-then-self-eq0-clause-turned g c = fails_unsent _ _ _ c.args.self.now c.plain-error.result c.requires.new (λ calls q. tells.has_no_room c.if-self-eq0.true c.plain-error.ensures)
 
 -- ---- how far it comes
 
 pub returns-then-self-eq0-clause-comes : goal.returns-then-self-eq0-clause-comes
-returns-then-self-eq0-clause-comes g c = get_fails_first _ (length c.args.self.now.bytes.items) c.args.self.now.done c.plain-error.result
+returns-then-self-eq0-clause-comes g c = get_fails_first _ (length c.args.self.now.bytes.items) c.args.self.now.done c.args.self.now.what.read c.plain-error.result
 
 pub returns-in-Ok-clause-comes : goal.returns-in-Ok-clause-comes
-returns-in-Ok-clause-comes g c = get_begins _ _ c.in-Ok.opening c.open.result (length c.args.self.now.bytes.items) c.args.self.now.done _ _ (ap ticket_by c.in-Ok.ensures.new) c.open.ensures.comes
+returns-in-Ok-clause-comes g c = get_begins _ _ c.in-Ok.opening c.open.result (length c.args.self.now.bytes.items) c.args.self.now.done _ _ c.args.self.now.what.read (ap ticket_by c.in-Ok.ensures.new) c.open.ensures.comes
 
 pub returns-in-Err-clause-comes : goal.returns-in-Err-clause-comes
-returns-in-Err-clause-comes g c = get_fails_first _ (length c.args.self.now.bytes.items) c.args.self.now.done c.in-Err.error
+returns-in-Err-clause-comes g c = get_fails_first _ (length c.args.self.now.bytes.items) c.args.self.now.done c.args.self.now.what.read c.in-Err.error

@@ -1,10 +1,10 @@
-use Rattle.std.proofs.Common.{arith, length, ℕ, Option, subst, sym, ◌∙◌}
+use Rattle.std.proofs.Common.{ap, arith, length, List, ℕ, Option, subst, sym, ◌∙◌}
 use Rattle.mg_link.specs.Acts.{Tickets}
 use Rattle.mg_gridfs.specs.DownloadView.{finding_of}
 use Rattle.mg_gridfs.specs.Findings.{finding_ticket}
 use Rattle.mg_players.specs.declared.get.GetStage.TheVariants as gets
 use Rattle.mg_script.specs.declared.outcome.Ended.TheVariants as ended
-use Rattle.mg_players.proofs.Advancing.{get_fails_at, get_opened_at, get_rests, get_waits}
+use Rattle.mg_players.proofs.Advancing.{fits_none, get_fails_at, get_opened_at, get_rests, get_waits}
 use Rattle.mg_players.proofs.GetTurning.{opening_done, opening_fails, opening_waits}
 use Rattle.mg_players.proofs.get.GetPlayer.open.Goals as goal
 
@@ -49,19 +49,19 @@ returns-in-Failed-clause-turned g c =
 pub returns-in-Pending-clause-comes : goal.returns-in-Pending-clause-comes
 returns-in-Pending-clause-comes g c =
     let job = c.args.self.now in
-    get_waits (g.L.Link.pends c.args.link.now) (g.L.Link.pends c.poll.new.link) (gets.Opens c.args.opening) (gets.Opens c.in-Pending.opening) (length job.bytes.items) job.done c.in-Pending.ensures.pended.1 (λ k last at. (at.0, at.1, at.2, c.in-Pending.ensures.pended.0))
+    get_waits (g.L.Link.pends c.args.link.now) (g.L.Link.pends c.poll.new.link) (gets.Opens c.args.opening) (gets.Opens c.in-Pending.opening) (length job.bytes.items) job.done job.what.read c.in-Pending.ensures.pended.1 (λ k last at. (at.0, at.1, at.2, c.in-Pending.ensures.pended.0))
 
 pub returns-in-Done-clause-comes : goal.returns-in-Done-clause-comes
 returns-in-Done-clause-comes g c =
     let job = c.args.self.now in
     let after = c.opened.new.self in
     let e = c.opened.ensures in
-    get_rests (g.L.Link.pends c.args.link.now) (g.L.Link.pends c.poll.new.link) (gets.Opens c.args.opening) c.opened.result (length job.bytes.items) job.done (length after.bytes.items) after.done c.in-Done.ensures.pended
-    (λ k last at. get_opened_at c.in-Done.download c.opened.result (length after.bytes.items) job.done after.done k e.stage e.ticket c.requires.new e.done at.0)
+    get_rests (g.L.Link.pends c.args.link.now) (g.L.Link.pends c.poll.new.link) (gets.Opens c.args.opening) c.opened.result (length job.bytes.items) job.done (length after.bytes.items) after.done job.what.read c.in-Done.ensures.pended
+    (λ k last at. get_opened_at c.in-Done.download c.opened.result (length after.bytes.items) job.done after.done k job.what.read e.stage e.ticket c.requires.new e.done at.0 (ap (λ (l : List ℕ). length l) e.bytes ∙ at.2))
 
 pub returns-in-Failed-clause-comes : goal.returns-in-Failed-clause-comes
 returns-in-Failed-clause-comes g c =
     let job = c.args.self.now in
     let first = c.requires.new in
-    get_rests (g.L.Link.pends c.args.link.now) (g.L.Link.pends c.poll.new.link) (gets.Opens c.args.opening) (gets.Ended (ended.Failed c.in-Failed.error)) (length job.bytes.items) job.done (length job.bytes.items) job.done c.in-Failed.ensures.pended
-    (λ k last at. get_fails_at (length job.bytes.items) job.done k c.in-Failed.error (at.0 ∙ sym first) (omega (arith, first)))
+    get_rests (g.L.Link.pends c.args.link.now) (g.L.Link.pends c.poll.new.link) (gets.Opens c.args.opening) (gets.Ended (ended.Failed c.in-Failed.error)) (length job.bytes.items) job.done (length job.bytes.items) job.done job.what.read c.in-Failed.ensures.pended
+    (λ k last at. get_fails_at (length job.bytes.items) job.done k job.what.read c.in-Failed.error (at.0 ∙ sym first) (omega (arith, first)) (fits_none (length job.bytes.items) job.done job.what.read at.2))

@@ -10,7 +10,7 @@ use Rattle.mg_players.specs.Gets.{sought}
 use Rattle.mg_players.specs.declared.get.GetStage.TheVariants as gets
 use Rattle.mg_script.specs.declared.outcome.Ended.TheVariants as ended
 use Rattle.mg_players.proofs.Advancing.{get_fails_at, get_kept_at, get_rests, get_waits}
-use Rattle.mg_players.proofs.GetRooms.{nothing_into, read_free, reads_into, room_gives, room_holds, room_is, room_stays}
+use Rattle.mg_players.proofs.GetRooms.{nothing_into, read_free, reads_into, room_fits, room_gives, room_holds, room_is, room_stays}
 use Rattle.mg_players.proofs.GetTurning.{read_done, read_fails, read_waits}
 use Rattle.mg_players.proofs.get.GetPlayer.read.Goals as goal
 
@@ -72,13 +72,13 @@ pub returns-in-Pending-clause-comes : goal.returns-in-Pending-clause-comes
 returns-in-Pending-clause-comes g c =
     let job = c.args.self.now in
     let pended = c.in-Pending.ensures.keeps.pended in
-    get_waits (g.L.Link.pends c.args.link.now) (g.L.Link.pends c.poll_read.new.link) (gets.Reads c.args.download c.args.room) (gets.Reads c.poll_read.new.self (with_items c.args.room c.poll_read.new.room)) (length job.bytes.items) job.done pended.1 (λ k last at. (at.0, at.1, at.2, pended.0))
+    get_waits (g.L.Link.pends c.args.link.now) (g.L.Link.pends c.poll_read.new.link) (gets.Reads c.args.download c.args.room) (gets.Reads c.poll_read.new.self (with_items c.args.room c.poll_read.new.room)) (length job.bytes.items) job.done job.what.read pended.1 (λ k last at. (at.0, at.1, at.2, pended.0, at.4))
 
 pub returns-in-Failed-clause-comes : goal.returns-in-Failed-clause-comes
 returns-in-Failed-clause-comes g c =
     let job = c.args.self.now in
-    get_rests (g.L.Link.pends c.args.link.now) (g.L.Link.pends c.poll_read.new.link) (gets.Reads c.args.download c.args.room) (gets.Ended (ended.Failed c.in-Failed.error)) (length job.bytes.items) job.done (length job.bytes.items) job.done c.in-Failed.ensures.keeps.pended
-    (λ k last at. get_fails_at (length job.bytes.items) job.done k c.in-Failed.error at.0 at.2)
+    get_rests (g.L.Link.pends c.args.link.now) (g.L.Link.pends c.poll_read.new.link) (gets.Reads c.args.download c.args.room) (gets.Ended (ended.Failed c.in-Failed.error)) (length job.bytes.items) job.done (length job.bytes.items) job.done job.what.read c.in-Failed.ensures.keeps.pended
+    (λ k last at. get_fails_at (length job.bytes.items) job.done k job.what.read c.in-Failed.error at.0 at.2 at.4)
 
 pub returns-in-Read-clause-comes : goal.returns-in-Read-clause-comes
 returns-in-Read-clause-comes g c =
@@ -86,5 +86,5 @@ returns-in-Read-clause-comes g c =
     let after = c.keep.new.self in
     let k = c.keep.ensures in
     let p = c.in-Read.ensures in
-    get_rests (g.L.Link.pends c.args.link.now) (g.L.Link.pends c.poll_read.new.link) (gets.Reads c.args.download c.args.room) c.keep.result (length job.bytes.items) job.done (length after.bytes.items) after.done p.keeps.pended
-    (λ m last at. get_kept_at c.poll_read.new.self (with_items c.args.room c.poll_read.new.room) c.in-Read.count job.bytes.items after.bytes.items c.keep.result job.done after.done m k.kept (λ more. room_gives c.args.room c.deref_mut.result.now c.poll_read.new.room c.deref_mut.ensures.value p.same_room job.bytes.items c.in-Read.count p.within) k.ticket k.done at.0 at.1 at.2)
+    get_rests (g.L.Link.pends c.args.link.now) (g.L.Link.pends c.poll_read.new.link) (gets.Reads c.args.download c.args.room) c.keep.result (length job.bytes.items) job.done (length after.bytes.items) after.done job.what.read p.keeps.pended
+    (λ m last at. get_kept_at c.poll_read.new.self (with_items c.args.room c.poll_read.new.room) c.in-Read.count job.bytes.items after.bytes.items c.keep.result job.done after.done m job.what.read k.kept (λ more. room_gives c.args.room c.deref_mut.result.now c.poll_read.new.room c.deref_mut.ensures.value p.same_room job.bytes.items c.in-Read.count p.within) k.ticket k.done at.0 at.1 at.2 (room_fits c.args.room c.deref_mut.result.now c.poll_read.new.room c.deref_mut.ensures.value p.same_room job.what.read c.in-Read.count c.requires.holds.1 p.within) at.4)
