@@ -1,15 +1,17 @@
 -- What needs no second test, once the bytes were checked.
-use Rattle.std.proofs.Common.{◌≡◌, ℕ, zero, suc, ◌+◌, ◌-◌, ◌≤◌, ◌<◌, List, [], ◌∷◌, length, get_or, take, drop, ltb, eqb, Bool, true, false, Option, Some, None, option_map, is_some, refl, sym, ap, subst, ◌∙◌, arith, ltb-false}
-use Rattle.std.specs.Prelude.{IsTrue, ◌||◌}
+use Rattle.std.proofs.Common.{◌≡◌, ℕ, zero, suc, ◌+◌, ◌-◌, ◌≤◌, ◌<◌, List, [], ◌∷◌, length, get_or, take, drop, ltb, eqb, cond, true, Option, Some, None, option_map, is_some, refl, sym, ap, subst, ◌∙◌, arith, ltb-false}
 use Rattle.std.specs.Str.{IsUtf8, is_utf8}
 use Rattle.std.proofs.lemmas.List.{drop-take, take_all}
 use Rattle.std.proofs.lemmas.Bool.{eqb-true}
 use Rattle.std.proofs.lemmas.Str.{IsUtf8-from_is_utf8, IsUtf8-from_ascii}
+use Rattle.mg_bson.specs.declared.kind.Kind.{Kind}
 use Rattle.mg_bson.specs.Kind.{kind_at}
-use Rattle.mg_bson.specs.Reading.{cut, utf8_of, le32_at, element_at, text_at, fields_at, doc_at, fixed}
+use Rattle.mg_bson.specs.Reading.{◌>>=◌, cut, utf8_of, le32_at, Element, element_at, text_at, regex_at, fields_at, doc_at, fixed}
 use Rattle.mg_bson.specs.Raw.{AreFields}
-use Rattle.mg_bson.specs.Tree.{Tree}
-use Rattle.mg_bson.proofs.Options.{bind_some, some_there, some_is, guard_some, test_some}
+use Rattle.mg_bson.specs.ReadView.{element_with, ended_text}
+use Rattle.mg_bson.specs.Tree.{Tree, regex}
+use Rattle.mg_bson.proofs.Options.{bind_some, bind_same, some_there, some_is, guard_some, test_some}
+use Rattle.mg_bson.proofs.Cutting.{text_is}
 use Rattle.mg_bson.proofs.Elements.{fields_at-front}
 
 take_ascii : (bs : List ℕ) (i k : ℕ) → ((j : ℕ) → j < i → get_or bs j 0 < 128) → get_or (take i bs) k 0 < 128
@@ -46,9 +48,47 @@ name_known (b ∷ bs) name rest h long e =
     let all : take (length (b ∷ bs) - 1) bs ≡ bs = take_all (length (b ∷ bs) - 1) bs (omega arith) in
     name_is_text b bs name rest h (ap cut (sym all) ∙ e)
 
-pub name_or_ascii : (ascii checked : Bool) (name : List ℕ) → (IsTrue ascii → IsUtf8 name) → (IsTrue checked → IsUtf8 name) → IsTrue (ascii || checked) → IsUtf8 name
-name_or_ascii true checked name f g h = f refl
-name_or_ascii false checked name f g h = g h
+-- an element whose name is known to be a text
+pub known_element : (bs name after : List ℕ) (k : Kind) (r : Option Element) → 1 ≤ length bs → Some k ≡ kind_at (get_or bs 0 0) → Some (name, after) ≡ cut (take (length bs - 1) (drop 1 bs)) → IsUtf8 name → r ≡ element_with k name after → r ≡ element_at bs
+unfolding element_at
+known_element [] name after k r long is cuts text e = absurd (omega arith)
+known_element (b ∷ bs) name after k r long is cuts text e =
+    let all : take (length (b ∷ bs) - 1) bs ≡ bs = take_all (length (b ∷ bs) - 1) bs (omega arith) in
+    let here : cut bs ≡ Some (name, after) = sym (cuts ∙ ap cut all) in
+    e ∙ sym (rw (sym is, here, text_is name text) refl)
+
+-- a text that a 0 ends, and then what follows
+abbrev beside : List ℕ → List ℕ → Option (List ℕ × List ℕ)
+beside rest text = Some (text, rest)
+
+through_text : {X : Type 0} (f : List ℕ → List ℕ → Option X) (t : Option (List ℕ)) (rest : List ℕ) → (t >>= λ text. f text rest) ≡ ((t >>= beside rest) >>= λ p. f p.0 p.1)
+through_text f (Some text) rest = refl
+through_text f None rest = refl
+
+through_cut : {X : Type 0} (f : List ℕ → List ℕ → Option X) (o : Option (List ℕ × List ℕ)) → (o >>= λ c. utf8_of c.0 >>= λ text. f text c.1) ≡ ((o >>= λ c. utf8_of c.0 >>= beside c.1) >>= λ p. f p.0 p.1)
+through_cut f (Some c) = through_text f (utf8_of c.0) c.1
+through_cut f None = refl
+
+through : {X : Type 0} (f : List ℕ → List ℕ → Option X) (bs : List ℕ) → (cut bs >>= λ c. utf8_of c.0 >>= λ text. f text c.1) ≡ (ended_text bs >>= λ p. f p.0 p.1)
+unfolding ended_text
+through f bs = through_cut f (cut bs)
+
+-- a regular expression, text by text
+regex_is : (bs : List ℕ) → regex_at bs ≡ (ended_text bs >>= λ a. ended_text a.1 >>= λ b. cond (eqb (length b.1) 0) (Some (regex a.0 b.0)) None)
+unfolding regex_at
+regex_is bs =
+    through (λ pattern more. cut more >>= λ b. utf8_of b.0 >>= λ options. cond (eqb (length b.1) 0) (Some (regex pattern options)) None) bs
+    ∙ bind_same (ended_text bs) (λ a. cut a.1 >>= λ b. utf8_of b.0 >>= λ options. cond (eqb (length b.1) 0) (Some (regex a.0 options)) None) (λ a. ended_text a.1 >>= λ b. cond (eqb (length b.1) 0) (Some (regex a.0 b.0)) None)
+    (λ a h. through (λ options last. cond (eqb (length last) 0) (Some (regex a.0 options)) None) a.1)
+
+pub regex_none : (bs : List ℕ) → ended_text bs ≡ None → regex_at bs ≡ None
+regex_none bs e = regex_is bs ∙ rw e refl
+
+pub regex_half : (bs pattern more : List ℕ) → ended_text bs ≡ Some (pattern, more) → ended_text more ≡ None → regex_at bs ≡ None
+regex_half bs pattern more e f = regex_is bs ∙ rw (e, f) refl
+
+pub regex_whole : (bs pattern more options last : List ℕ) → ended_text bs ≡ Some (pattern, more) → ended_text more ≡ Some (options, last) → regex_at bs ≡ cond (eqb (length last) 0) (Some (regex pattern options)) None
+regex_whole bs pattern more options last e f = regex_is bs ∙ rw (e, f) refl
 
 middle : (bs : List ℕ) → 5 ≤ length bs → drop 4 (take (length bs - 1) bs) ≡ take (length bs - 1 - 4) (drop 4 bs)
 middle bs h =

@@ -98,12 +98,12 @@ pub opens : (v : Spelled) → IsValue v → value_at (doc_at 99) v.kind v.bytes 
 opens v h e = let there = some_there (value_at (doc_at 99) v.kind v.bytes) h in cc (there.1, e)
 
 -- an element with the value that was opened, as the next one
-pub opened_next : {A : Type 0} (name : A → List ℕ) (val : A → Tree) (v : Spelled) (k : List ℕ) (all rest : Fields) (o : Option A) → IsValue v → all ≡ field k (spelled v) rest
-    → IfSome o (λ r. name r ≡ k) → option_map val o ≡ value_at (doc_at 99) v.kind v.bytes → MatchOption o (all ≡ no_fields) (λ r. all ≡ field (name r) (val r) rest)
-opened_next name val v k all rest (Some r) is e n h =
+pub opened_next : {A : Type 0} (P : Type 0) (name : A → List ℕ) (val : A → Tree) (v : Spelled) (k : List ℕ) (all rest : Fields) (o : Option A) → IsValue v → all ≡ field k (spelled v) rest
+    → IfSome o (λ r. name r ≡ k) → option_map val o ≡ value_at (doc_at 99) v.kind v.bytes → MatchOption o P (λ r. all ≡ field (name r) (val r) rest)
+opened_next P name val v k all rest (Some r) is e n h =
     let opened : spelled v ≡ val r = spelled-is v (val r) (sym h) in
     e ∙ (λ i. field (sym n i) (opened i) rest)
-opened_next name val v k all rest None is e n h = absurd (opens v is (sym h))
+opened_next P name val v k all rest None is e n h = absurd (opens v is (sym h))
 
 -- the documents inside a value
 pub inner_document : (bs : List ℕ) → IsValue (record { kind = kind.Document; bytes = bs }) → IsDocument bs × (option_map document (doc_at 99 bs) ≡ Some (document (fields bs)))

@@ -1,5 +1,6 @@
 -- A number that was written is read again.
-use Rattle.std.proofs.Common.{◌≡◌, ℕ, ◌<◌, ◌^◌, List, [], ◌∷◌, ◌++◌, length, drop, get_or, refl, length-append}
+use Rattle.std.proofs.Common.{◌≡◌, ℕ, ◌<◌, ◌^◌, List, [], ◌∷◌, ◌++◌, length, take, drop, get_or, refl, length-append}
+use Rattle.std.specs.Int.{w32, w64, from_le_bytes}
 use Rattle.std.proofs.lemmas.Nat.{from_le_bytes-to_le_bytes_4, from_le_bytes-to_le_bytes_8}
 use Rattle.mg_bson.specs.Bytes.{le32, le64}
 use Rattle.mg_bson.specs.Reading.{le32_at, le64_at}
@@ -35,5 +36,26 @@ byte_behind n b rest = refl
 pub drop_behind : (n b : ℕ) (rest : List ℕ) → drop 5 (le32 n ++ b ∷ rest) ≡ rest
 unfolding le32
 drop_behind n b rest = refl
+
+-- only the bytes in front are read
+pub first_four : (bs : List ℕ) → from_le_bytes w32 (take 4 bs) ≡ le32_at bs
+unfolding le32_at
+first_four [] = refl
+first_four (a ∷ []) = refl
+first_four (a ∷ b ∷ []) = refl
+first_four (a ∷ b ∷ c ∷ []) = refl
+first_four (a ∷ b ∷ c ∷ d ∷ bs) = refl
+
+pub first_eight : (bs : List ℕ) → from_le_bytes w64 (take 8 bs) ≡ le64_at bs
+unfolding le64_at
+first_eight [] = refl
+first_eight (a ∷ []) = refl
+first_eight (a ∷ b ∷ []) = refl
+first_eight (a ∷ b ∷ c ∷ []) = refl
+first_eight (a ∷ b ∷ c ∷ d ∷ []) = refl
+first_eight (a ∷ b ∷ c ∷ d ∷ e ∷ []) = refl
+first_eight (a ∷ b ∷ c ∷ d ∷ e ∷ f ∷ []) = refl
+first_eight (a ∷ b ∷ c ∷ d ∷ e ∷ f ∷ g ∷ []) = refl
+first_eight (a ∷ b ∷ c ∷ d ∷ e ∷ f ∷ g ∷ h ∷ bs) = refl
 
 pub ruleset lengths = (length-le32, length-le64, length-append)

@@ -1,8 +1,8 @@
 -- Where a field of a name stands.
-use Rattle.std.proofs.Common.{◌≡◌, ℕ, zero, suc, ◌+◌, ◌<◌, List, [], ◌∷◌, ◌++◌, length, get_or, set, Bool, true, false, Option, Some, None, option_map, refl, sym, ap, subst, ◌∙◌, arith, inl, inr, ◌⊎◌}
+use Rattle.std.proofs.Common.{◌≡◌, ℕ, zero, suc, ◌<◌, List, [], ◌∷◌, ◌++◌, length, get_or, set, Bool, true, false, Option, Some, None, MatchOption, option_map, refl, sym, ap, subst, ◌∙◌, arith, inl, inr, ◌⊎◌}
 use Rattle.std.specs.Prelude.{remove, slice_get, ◌==◌, ◌↔◌, IsTrue}
 use Rattle.std.proofs.lemmas.Bool.{eqb-true}
-use Rattle.std.specs.List.{ItemBy}
+use Rattle.std.specs.List.{AllWithin, HoldsAt, ItemBy}
 use Rattle.std.proofs.lemmas.Option.{slice_get_past, slice_get-get_or}
 use Rattle.std.specs.Str.{bytes_eq}
 use Rattle.mg_bson.specs.Tree.{Tree, field, no_fields, item, no_items}
@@ -20,22 +20,16 @@ pub length-fields_of : (fs : List Field) → length fs ≡ fields_length (fields
 length-fields_of [] = refl
 length-fields_of (f ∷ fs) = ap suc (length-fields_of fs)
 
-map_plus : (i : ℕ) (o : Option ℕ) → option_map (λ j. i + j) (option_map suc o) ≡ option_map (λ j. (i + 1) + j) o
-map_plus i (Some j) = ap Some (omega arith)
-map_plus i None = refl
-
-map_none : (o : Option ℕ) → o ≡ option_map (λ j. 0 + j) o
-map_none (Some j) = ap Some (omega arith)
-map_none None = refl
-
-pub place_starts : (k : List ℕ) (fs : List Field) → option_map (λ j. 0 + j) (place k fs) ≡ place k fs
-place_starts k fs = sym (map_none (place k fs))
-
-pub place_passes : (k : List ℕ) (f : Field) (fs : List Field) (i : ℕ) → bytes_eq f.name k ≡ false → option_map (λ j. i + j) (place k (f ∷ fs)) ≡ option_map (λ j. (i + 1) + j) (place k fs)
-place_passes k f fs i e = rw e (map_plus i (place k fs))
-
-pub place_found : (k : List ℕ) (f : Field) (fs : List Field) (i : ℕ) → bytes_eq f.name k ≡ true → option_map (λ j. i + j) (place k (f ∷ fs)) ≡ Some i
-place_found k f fs i e = rw e (ap Some (omega arith))
+-- the first field of the name, as `position` says it
+pub place_at_first : (k : List ℕ) (fs : List Field) (r : Option ℕ)
+    → MatchOption r (AllWithin (λ (f : Field). bytes_eq f.name k ≡ false) fs 0 (length fs)) (λ i. (i < length fs) × HoldsAt (λ (f : Field). bytes_eq f.name k ≡ true) fs i × AllWithin (λ (f : Field). bytes_eq f.name k ≡ false) fs 0 i)
+    → place k fs ≡ r
+place_at_first k [] None h = refl
+place_at_first k [] (Some i) h = absurd (omega (arith, h.0))
+place_at_first k (f ∷ fs) None h = rw (h 0 f (omega arith) (omega arith)) (ap (option_map suc) (place_at_first k fs None (λ j d from to. h (suc j) d (omega arith) (omega arith))))
+place_at_first k (f ∷ fs) (Some zero) h = rw (h.1 f) refl
+place_at_first k (f ∷ fs) (Some (suc i)) h =
+    rw (h.2 0 f (omega arith) (omega arith)) (ap (option_map suc) (place_at_first k fs (Some i) (omega (arith, h.0), h.1, λ j d from to. h.2 (suc j) d (omega arith) (omega arith))))
 
 both : (b : Bool) → (b ≡ true) ⊎ (b ≡ false)
 both true = inl refl

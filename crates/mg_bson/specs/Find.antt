@@ -1,7 +1,7 @@
 -- What is looked up in documents and values.
 use Rattle.std.specs.Prelude.{ℕ, zero, suc, ℤ, List, [], ◌∷◌, Bool, true, false, Option, Some, None, if◌then◌else◌}
 use Rattle.std.specs.Str.{bytes_eq}
-use Rattle.mg_bson.specs.Tree.{Tree, double, string, document, array, binary, object_id, boolean, date_time, null, int32, timestamp, int64, Fields, no_fields, field, Items, no_items, item}
+use Rattle.mg_bson.specs.Tree.{Tree, double, string, document, array, binary, object_id, boolean, date_time, null, int32, timestamp, int64, decimal128, Fields, no_fields, field, Items, no_items, item}
 
 -- the first value of the name
 abbrev pub get : List ℕ → Fields → Option Tree
@@ -57,6 +57,11 @@ as_object_id _ = None
 abbrev pub as_date_time : Tree → Option ℤ
 as_date_time (date_time z) = Some z
 as_date_time _ = None
+
+-- the bytes of a decimal floating point number
+abbrev pub as_decimal128 : Tree → Option (List ℕ)
+as_decimal128 (decimal128 bs) = Some bs
+as_decimal128 _ = None
 
 -- whether the value is null
 abbrev pub is_null : Tree → Bool

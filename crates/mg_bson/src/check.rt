@@ -29,7 +29,7 @@ fn are_fields(bytes: &[u8], levels: u32) -> bool
 {
     let mut rest = bytes;
     while !rest.is_empty() {
-        match split_element(rest, false) {
+        match split_element(rest) {
             None => return false,
             Some(element) => {
                 if !is_value(element.kind, element.value, levels) {

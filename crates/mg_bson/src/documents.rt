@@ -5,7 +5,7 @@ ghost use Rattle.mg_bson.specs.Spans.{array_inside, documents_inside, items_insi
 ghost use Rattle.mg_bson.specs.Walks.{advanced, before, front_of, passed_over};
 
 use crate::raw::{RawArray, RawDocument, RawDocumentBuf};
-use crate::read::split_element;
+use crate::read::split_known;
 use crate::span::{are_documents, elements_inside, span_inside};
 use std::marker::Model;
 
@@ -77,7 +77,7 @@ impl RawDocuments {
         ensures there { result ≡ is_some self.new.current }
     {
         let bytes = self.document.as_bytes();
-        let Some(element) = split_element(&bytes[self.next..self.end], true) else {
+        let Some(element) = split_known(&bytes[self.next..self.end]) else {
             self.begin = self.upto;
             return false;
         };
@@ -94,7 +94,7 @@ impl RawDocuments {
         ensures { result ≡ front_of self.now.behind }
     {
         let bytes = self.document.as_bytes();
-        match split_element(&bytes[self.next..self.end], true) {
+        match split_known(&bytes[self.next..self.end]) {
             Some(element) => Some(RawDocument::checked(element.value)),
             None => None,
         }
@@ -105,7 +105,7 @@ impl RawDocuments {
         ensures { self.new ≡ passed_over self.old }
     {
         let bytes = self.document.as_bytes();
-        if let Some(element) = split_element(&bytes[self.next..self.end], true) {
+        if let Some(element) = split_known(&bytes[self.next..self.end]) {
             let behind = element.rest.len();
             self.next = self.end - behind;
         }

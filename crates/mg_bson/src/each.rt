@@ -13,7 +13,7 @@ use crate::tree::{Array, ArrayIter, Bson, Document, DocumentIter, DocumentKeys};
 impl<'a> Iterator for DocumentIter<'a> {
     type Item = (&'a str, &'a Bson);
 
-    ghost next_gives = { λ left next rest. MatchOption next (left ≡ no_fields)
+    ghost next_gives = { λ left next rest. MatchOption next ((left ≡ no_fields) × (rest ≡ no_fields))
         (λ r. left ≡ field r.0.now (tree r.1.now) rest) };
 
     ghost remaining = { λ left. at_most (fields_length left) };
@@ -26,7 +26,7 @@ impl<'a> Iterator for DocumentIter<'a> {
 impl<'a> Iterator for DocumentKeys<'a> {
     type Item = &'a str;
 
-    ghost next_gives = { λ left next rest. MatchOption next (left ≡ []) (λ k. left ≡ k.now ∷ rest) };
+    ghost next_gives = { λ left next rest. MatchOption next ((left ≡ []) × (rest ≡ [])) (λ k. left ≡ k.now ∷ rest) };
 
     ghost remaining = { λ left. at_most (length left) };
 
@@ -38,7 +38,7 @@ impl<'a> Iterator for DocumentKeys<'a> {
 impl<'a> Iterator for ArrayIter<'a> {
     type Item = &'a Bson;
 
-    ghost next_gives = { λ left next rest. MatchOption next (left ≡ no_items)
+    ghost next_gives = { λ left next rest. MatchOption next ((left ≡ no_items) × (rest ≡ no_items))
         (λ v. left ≡ item (tree v.now) rest) };
 
     ghost remaining = { λ left. at_most (items_length left) };
@@ -51,7 +51,7 @@ impl<'a> Iterator for ArrayIter<'a> {
 impl<'a> Iterator for RawIter<'a> {
     type Item = (&'a str, RawValue<'a>);
 
-    ghost next_gives = { λ left next rest. MatchOption next (fields_left left ≡ no_fields)
+    ghost next_gives = { λ left next rest. MatchOption next ((fields_left left ≡ no_fields) × (fields_left rest ≡ no_fields))
         (λ r. fields_left left ≡ field r.0.now (value r.1) (fields_left rest)) };
 
     ghost remaining = { λ left. at_most (fields_length (fields_left left)) };
@@ -65,7 +65,7 @@ impl<'a> Iterator for RawIter<'a> {
 impl<'a> Iterator for RawItems<'a> {
     type Item = RawValue<'a>;
 
-    ghost next_gives = { λ left next rest. MatchOption next (items_left left ≡ no_items)
+    ghost next_gives = { λ left next rest. MatchOption next ((items_left left ≡ no_items) × (items_left rest ≡ no_items))
         (λ v. items_left left ≡ item (value v) (items_left rest)) };
 
     ghost remaining = { λ left. at_most (items_length (items_left left)) };

@@ -61,7 +61,7 @@ fn first_fault(body: &[u8]) -> Option<Malformation>
     while !rest.is_empty() {
         // The length of the document stands in front of its elements.
         let place = body.len() - rest.len() + 4;
-        match split_element(rest, false) {
+        match split_element(rest) {
             None => {
                 let reason = MalformedReason::Element;
                 return Some(Malformation { place, reason });

@@ -246,8 +246,8 @@ fn measure_scoped(len: usize, value: &CodeWithScope, levels: u32) -> Result<usiz
 }
 
 impl Document {
-    /// How many bytes the document is encoded in. It takes no memory, and fails where [`to_bytes`](crate::to_bytes) does with
-    /// ample memory, with the same error.
+    /// How many bytes the document is encoded in. It takes no memory, and fails just where [`to_bytes`](crate::to_bytes) does
+    /// with ample memory.
     ///
     ///     let len = document.encoded_len()?;
     pub fn encoded_len(&self) -> Result<usize, BsonError>

@@ -4,7 +4,7 @@ ghost use Rattle.std.specs.Cmp.{partial_equiv_from_equiv};
 ghost use Rattle.std.specs.Cmp.Lexicographic.{nat_list_eq_equiv};
 ghost use Rattle.std.specs.Str.{bytes_eq};
 ghost use Rattle.mg_bson.specs.Tree.{no_fields, field, no_items, item};
-ghost use Rattle.mg_bson.specs.Find.{get, as_document, as_array, as_int32, as_int64, as_string, as_binary, as_boolean, as_timestamp, as_double, as_object_id, as_date_time, is_null, items_length};
+ghost use Rattle.mg_bson.specs.Find.{get, as_document, as_array, as_int32, as_int64, as_string, as_binary, as_boolean, as_timestamp, as_double, as_object_id, as_date_time, as_decimal128, is_null, items_length};
 ghost use Rattle.mg_bson.specs.Raw.{IsDocument, IsValue, fields, fields_left, items, items_left, spelled};
 ghost use Rattle.mg_bson.specs.ReadView.{spelling};
 ghost use Rattle.mg_bson.specs.View.{tree};
@@ -21,7 +21,7 @@ use crate::limits::MAX_LEVELS;
 use crate::object_id::ObjectId;
 use crate::read::{
     Element, array_of, binary_of, body_of, boolean_of, i32_at, i64_at, known_text_of, pointer_of,
-    regex_of, scope_of, split_element, u32_at,
+    regex_of, scope_of, split_known, u32_at,
 };
 use crate::tree::{Bson, DateTime, Timestamp};
 use std::alloc::{AllocError, Global};
@@ -147,33 +147,33 @@ pub enum RawValue<'a> {
 impl Drop for RawValue<'_> {
     fn drop(self) {
         match self {
-            RawValue::Double(_) => {}
-            RawValue::String(_) => {}
-            RawValue::Document(_) => {}
-            RawValue::Array(_) => {}
-            RawValue::Binary(_, _) => {}
-            RawValue::Undefined => {}
-            RawValue::ObjectId(_) => {}
-            RawValue::Boolean(_) => {}
-            RawValue::DateTime(_) => {}
-            RawValue::Null => {}
-            RawValue::Regex(_, _) => {}
-            RawValue::DbPointer(_, _) => {}
-            RawValue::Code(_) => {}
-            RawValue::Symbol(_) => {}
-            RawValue::CodeWithScope(_, _) => {}
-            RawValue::Int32(_) => {}
-            RawValue::Timestamp(_) => {}
-            RawValue::Int64(_) => {}
-            RawValue::Decimal128(_) => {}
-            RawValue::MinKey => {}
-            RawValue::MaxKey => {}
+            RawValue::Double(_)
+            | RawValue::String(_)
+            | RawValue::Document(_)
+            | RawValue::Array(_)
+            | RawValue::Binary(_, _)
+            | RawValue::Undefined
+            | RawValue::ObjectId(_)
+            | RawValue::Boolean(_)
+            | RawValue::DateTime(_)
+            | RawValue::Null
+            | RawValue::Regex(_, _)
+            | RawValue::DbPointer(_, _)
+            | RawValue::Code(_)
+            | RawValue::Symbol(_)
+            | RawValue::CodeWithScope(_, _)
+            | RawValue::Int32(_)
+            | RawValue::Timestamp(_)
+            | RawValue::Int64(_)
+            | RawValue::Decimal128(_)
+            | RawValue::MinKey
+            | RawValue::MaxKey => {}
         }
     }
 }
 
-/// An array that is lent from checked bytes: a document whose names are not looked at. In a
-/// contract it is its bytes, and `items` is what they spell.
+/// An array that is lent from checked bytes: a document whose names may be any texts, since an
+/// item is told by its place. In a contract it is its bytes, and `items` is what they spell.
 ///
 ///     for value in &array { .. }
 #[derive(Debug, Drop)]
@@ -255,7 +255,7 @@ impl<'a> RawItems<'a> {
     /// The next value, if one is left.
     #[inline(always)]
     pub fn next(&mut self) -> Option<RawValue<'a>>
-        ensures { MatchOption result (items_left self.old ≡ no_items)
+        ensures { MatchOption result ((items_left self.old ≡ no_items) × (items_left self.new ≡ no_items))
             (λ v. items_left self.old ≡ item (value v) (items_left self.new)) }
     {
         match self.left.next() {
@@ -361,6 +361,71 @@ impl<'a> Clone for RawArray<'a> {
     }
 }
 
+impl<'a> Clone for RawIter<'a> {
+    ghost is_clone = { λ v w. w ≡ v };
+
+    ghost is_infallible = { λ _. ⊤ };
+
+    /// The same elements once more. It takes no memory: its `Result` is never an error.
+    ///
+    ///     let again = left.clone()?;
+    fn clone(&self) -> Result<RawIter<'a>, AllocError> {
+        Ok(RawIter { rest: self.rest })
+    }
+}
+
+impl<'a> Clone for RawItems<'a> {
+    ghost is_clone = { λ v w. w ≡ v };
+
+    ghost is_infallible = { λ _. ⊤ };
+
+    /// The same values once more. It takes no memory: its `Result` is never an error.
+    ///
+    ///     let again = left.clone()?;
+    fn clone(&self) -> Result<RawItems<'a>, AllocError> {
+        let left = self.left.clone()?;
+        Ok(RawItems { left })
+    }
+}
+
+impl<'a> Clone for RawValue<'a> {
+    ghost is_clone = { λ v w. w ≡ v };
+
+    ghost is_infallible = { λ _. ⊤ };
+
+    /// Lends the same value. It takes no memory: its `Result` is never an error.
+    ///
+    ///     let same = value.clone()?;
+    fn clone(&self) -> Result<RawValue<'a>, AllocError> {
+        Ok(match self {
+            RawValue::Double(v) => RawValue::Double(*v),
+            RawValue::String(text) => RawValue::String(text),
+            RawValue::Document(d) => RawValue::Document(RawDocument { bytes: d.bytes }),
+            RawValue::Array(a) => RawValue::Array(RawArray { bytes: a.bytes }),
+            RawValue::Binary(subtype, bytes) => RawValue::Binary(*subtype, bytes),
+            RawValue::Undefined => RawValue::Undefined,
+            RawValue::ObjectId(id) => RawValue::ObjectId(*id),
+            RawValue::Boolean(b) => RawValue::Boolean(*b),
+            RawValue::DateTime(t) => RawValue::DateTime(*t),
+            RawValue::Null => RawValue::Null,
+            RawValue::Regex(pattern, options) => RawValue::Regex(pattern, options),
+            RawValue::DbPointer(namespace, id) => RawValue::DbPointer(namespace, *id),
+            RawValue::Code(text) => RawValue::Code(text),
+            RawValue::Symbol(text) => RawValue::Symbol(text),
+            RawValue::CodeWithScope(code, scope) => RawValue::CodeWithScope(
+                code,
+                RawDocument { bytes: scope.bytes },
+            ),
+            RawValue::Int32(n) => RawValue::Int32(*n),
+            RawValue::Timestamp(t) => RawValue::Timestamp(*t),
+            RawValue::Int64(n) => RawValue::Int64(*n),
+            RawValue::Decimal128(v) => RawValue::Decimal128(*v),
+            RawValue::MinKey => RawValue::MinKey,
+            RawValue::MaxKey => RawValue::MaxKey,
+        })
+    }
+}
+
 impl<'a> RawDocument<'a> {
     /// Checks that the bytes are one document, at all its levels, and lends it where they stand. They are malformed exactly
     /// where [`RawDocumentBuf::from_bytes`] finds them so. It takes no memory.
@@ -433,10 +498,10 @@ impl<'a> RawIter<'a> {
     // The next element, whose value is not opened.
     #[inline(always)]
     fn next_element(&mut self) -> Option<Element<'a>>
-        ensures { MatchOption result (fields_left self.old ≡ no_fields)
+        ensures { MatchOption result ((fields_left self.old ≡ no_fields) × (fields_left self.new ≡ no_fields))
             (λ e. IsValue (spelling e) × (fields_left self.old ≡ field e.name.now (spelled (spelling e)) (fields_left self.new))) }
     {
-        let element = split_element(self.rest, true)?;
+        let element = split_known(self.rest)?;
         self.rest = element.rest;
         Some(element)
     }
@@ -444,7 +509,7 @@ impl<'a> RawIter<'a> {
     /// The next name and value, if one is left.
     #[inline(always)]
     pub fn next(&mut self) -> Option<(&'a str, RawValue<'a>)>
-        ensures { MatchOption result (fields_left self.old ≡ no_fields)
+        ensures { MatchOption result ((fields_left self.old ≡ no_fields) × (fields_left self.new ≡ no_fields))
             (λ r. fields_left self.old ≡ field r.0.now (value r.1) (fields_left self.new)) }
     {
         let element = self.next_element()?;
@@ -645,6 +710,18 @@ impl<'a> RawValue<'a> {
     {
         match self {
             RawValue::DateTime(t) => Some(*t),
+            _ => None,
+        }
+    }
+
+    /// The 16 bytes of a decimal floating point number, the lowest first, and nothing of another kind.
+    ///
+    ///     let Some(bytes) = value.as_decimal128() else { .. };
+    pub fn as_decimal128(&self) -> Option<[u8; 16]>
+        ensures { result ≡ as_decimal128 (value self.now) }
+    {
+        match self {
+            RawValue::Decimal128(v) => Some(*v),
             _ => None,
         }
     }

@@ -5,10 +5,10 @@ ghost use Rattle.std.specs.Int.{w32, w64, cast_signed};
 ghost use Rattle.mg_bson.specs.Raw.{AreFields};
 ghost use Rattle.mg_bson.specs.Reading.{le32_at, le64_at, utf8_of, ahead, two_texts, extent, element_at, body_at, text_at, boolean_at, binary_at, regex_at, pointer_at, text_and_rest, scope_parts};
 ghost use Rattle.mg_bson.specs.Tree.{boolean, binary, regex, db_pointer};
-ghost use Rattle.mg_bson.specs.ReadView.{element_view};
+ghost use Rattle.mg_bson.specs.ReadView.{element_view, element_with, ended_text};
 
 use crate::kind::Kind;
-use crate::scan::cut_at_zero;
+use crate::scan::{cut_and_look, cut_at_zero};
 use std::str;
 
 // An element, and the bytes behind it. The kind stands last, so that a move copies whole words.
@@ -21,23 +21,19 @@ pub(crate) struct Element<'a> {
 }
 
 #[inline(always)]
-#[tactic(auto, unfolding(crate::specs::Reading::le32_at))]
 pub(crate) fn u32_at(bytes: &[u8]) -> u32
     requires { 4 ≤ length bytes.now }
     ensures { result ≡ le32_at bytes.now }
 {
-    u32::from_le_bytes([bytes[0], bytes[1], bytes[2], bytes[3]])
+    u32::from_le_bytes(array_of(&bytes[..4]))
 }
 
 #[inline(always)]
-#[tactic(auto, unfolding(crate::specs::Reading::le64_at))]
 pub(crate) fn u64_at(bytes: &[u8]) -> u64
     requires { 8 ≤ length bytes.now }
     ensures { result ≡ le64_at bytes.now }
 {
-    u64::from_le_bytes([
-        bytes[0], bytes[1], bytes[2], bytes[3], bytes[4], bytes[5], bytes[6], bytes[7],
-    ])
+    u64::from_le_bytes(array_of(&bytes[..8]))
 }
 
 #[inline(always)]
@@ -65,16 +61,35 @@ fn known_text(bytes: &[u8]) -> &str
     unsafe { str::from_utf8_unchecked(bytes) }
 }
 
-// The bytes, where they are a text. They are tested where that is not known.
+// The bytes, where they are a text.
 #[inline(always)]
-fn checked_text(bytes: &[u8], is_known: bool) -> Option<&str>
-    requires { IsTrue is_known → IsUtf8 bytes.now }
+fn checked_text(bytes: &[u8]) -> Option<&str>
     ensures { option_map (λ s. s.now) result ≡ utf8_of bytes.now }
 {
-    if is_known {
-        return Some(known_text(bytes));
-    }
     str::from_utf8(bytes).ok()
+}
+
+// The bytes, where they are a text. ASCII is not tested again.
+#[inline(always)]
+fn looked_at_text(bytes: &[u8], is_ascii: bool) -> Option<&str>
+    requires { IsTrue is_ascii → IsUtf8 bytes.now }
+    ensures { option_map (λ s. s.now) result ≡ utf8_of bytes.now }
+{
+    if is_ascii {
+        Some(known_text(bytes))
+    } else {
+        checked_text(bytes)
+    }
+}
+
+// The text that a 0 ends, and the bytes behind it.
+#[tactic(auto, unfolding(crate::specs::ReadView::ended_text))]
+fn ended_text_of(bytes: &[u8]) -> Option<(&str, &[u8])>
+    ensures { option_map (λ p. (p.0.now, p.1.now)) result ≡ ended_text bytes.now }
+{
+    let (text, behind, is_ascii) = cut_and_look(bytes)?;
+    let text = looked_at_text(text, is_ascii)?;
+    Some((text, behind))
 }
 
 // The number in front, and some more: how long a value is that its length begins.
@@ -95,8 +110,8 @@ fn number_ahead(more: usize, bytes: &[u8]) -> Option<usize>
 fn two_texts_of(bytes: &[u8]) -> Option<usize>
     ensures { result ≡ two_texts bytes.now }
 {
-    let (first, behind, _) = cut_at_zero(bytes)?;
-    let (second, _, _) = cut_at_zero(behind)?;
+    let (first, behind) = cut_at_zero(bytes)?;
+    let (second, _) = cut_at_zero(behind)?;
     Some(first.len() + second.len() + 2)
 }
 
@@ -120,11 +135,28 @@ fn extent_of(kind: Kind, bytes: &[u8]) -> Option<usize>
     }
 }
 
-// The element in front, whose value is not read yet. The name of an element that was checked before is not tested again.
+// The element of the kind and the name whose value the bytes begin with.
+#[inline(always)]
+fn element_before<'a>(kind: Kind, name: &'a str, bytes: &'a [u8]) -> Option<Element<'a>>
+    ensures { option_map element_view result ≡ element_with kind name.now bytes.now }
+{
+    let len = extent_of(kind, bytes)?;
+    if bytes.len() < len {
+        return None;
+    }
+    let (value, rest) = bytes.split_at(len);
+    Some(Element {
+        name,
+        value,
+        rest,
+        kind,
+    })
+}
+
+// The element in front, whose value is not read yet.
 #[inline(always)]
 #[tactic(auto, unfolding(crate::specs::Reading::element_at))]
-pub(crate) fn split_element(bytes: &[u8], is_checked: bool) -> Option<Element<'_>>
-    requires { IsTrue is_checked → AreFields bytes.now }
+pub(crate) fn split_element(bytes: &[u8]) -> Option<Element<'_>>
     ensures { option_map element_view result ≡ element_at bytes.now }
 {
     let (byte, behind) = match bytes {
@@ -132,19 +164,25 @@ pub(crate) fn split_element(bytes: &[u8], is_checked: bool) -> Option<Element<'_
         [byte, behind @ ..] => (*byte, behind),
     };
     let kind = Kind::from_byte(byte)?;
-    let (name, after, is_ascii) = cut_at_zero(behind)?;
-    let name = checked_text(name, is_ascii | is_checked)?;
-    let len = extent_of(kind, after)?;
-    if after.len() < len {
-        return None;
-    }
-    let (value, rest) = after.split_at(len);
-    Some(Element {
-        name,
-        value,
-        rest,
-        kind,
-    })
+    let (name, after, is_ascii) = cut_and_look(behind)?;
+    let name = looked_at_text(name, is_ascii)?;
+    element_before(kind, name, after)
+}
+
+// The element in front of bytes that were checked before. Its name is not tested again.
+#[inline(always)]
+#[tactic(auto, unfolding(crate::specs::Reading::element_at))]
+pub(crate) fn split_known(bytes: &[u8]) -> Option<Element<'_>>
+    requires { AreFields bytes.now }
+    ensures { option_map element_view result ≡ element_at bytes.now }
+{
+    let (byte, behind) = match bytes {
+        [] => return None,
+        [byte, behind @ ..] => (*byte, behind),
+    };
+    let kind = Kind::from_byte(byte)?;
+    let (name, after) = cut_at_zero(behind)?;
+    element_before(kind, known_text(name), after)
 }
 
 // The elements of a document, between its length and its last byte.
@@ -184,7 +222,7 @@ pub(crate) fn text_of(bytes: &[u8]) -> Option<&str>
     if bytes[len - 1] != 0 {
         return None;
     }
-    checked_text(&bytes[4..len - 1], false)
+    checked_text(&bytes[4..len - 1])
 }
 
 // The text of bytes that were found to be one before, and are not tested again.
@@ -223,14 +261,11 @@ pub(crate) fn binary_of(bytes: &[u8]) -> Option<(u8, &[u8])>
     Some((head[4], rest))
 }
 
-#[tactic(auto, unfolding(crate::specs::Reading::regex_at))]
 pub(crate) fn regex_of(bytes: &[u8]) -> Option<(&str, &str)>
     ensures { option_map (λ p. regex p.0.now p.1.now) result ≡ regex_at bytes.now }
 {
-    let (pattern, behind, is_ascii) = cut_at_zero(bytes)?;
-    let pattern = checked_text(pattern, is_ascii)?;
-    let (options, rest, is_ascii) = cut_at_zero(behind)?;
-    let options = checked_text(options, is_ascii)?;
+    let (pattern, behind) = ended_text_of(bytes)?;
+    let (options, rest) = ended_text_of(behind)?;
     if !rest.is_empty() {
         return None;
     }

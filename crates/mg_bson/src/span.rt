@@ -5,7 +5,7 @@ ghost use Rattle.mg_bson.specs.Reading.{body_at};
 ghost use Rattle.mg_bson.specs.Spans.{array_inside, array_named, between, document_named, documents_left, value_named};
 
 use crate::kind::Kind;
-use crate::read::{body_of, split_element};
+use crate::read::{body_of, split_known};
 
 // A part of a document's bytes: from one place up to another.
 #[derive(Clone, Copy, Debug, PartialEq, Eq)]
@@ -23,7 +23,7 @@ fn span_named(bytes: &[u8], name: &str) -> Option<(Span, Kind)>
     ensures within { IfSome result (λ r. (r.0.from ≤ r.0.upto) × (r.0.upto ≤ length bytes.now)) }
 {
     let mut left = body_of(bytes)?;
-    while let Some(element) = split_element(left, true) {
+    while let Some(element) = split_known(left) {
         if element.name == name {
             let upto = bytes.len() - 1 - element.rest.len();
             let from = upto - element.value.len();
@@ -98,7 +98,7 @@ pub(crate) fn are_documents(elements: &[u8]) -> bool
     ensures { result ≡ is_some (documents_left elements.now) }
 {
     let mut left = elements;
-    while let Some(element) = split_element(left, true) {
+    while let Some(element) = split_known(left) {
         match element.kind {
             Kind::Document => left = element.rest,
             _ => return false,

@@ -1,7 +1,7 @@
 //! Documents as trees that own their parts.
-ghost use Rattle.std.specs.Prelude.{◌≡◌, ◌↔◌, IsTrue, [], ◌∷◌, MatchOption, IfOk, IfErr, OnOk, OnErr, option_map};
+ghost use Rattle.std.specs.Prelude.{◌≡◌, ◌↔◌, IsTrue, [], ◌∷◌, MatchOption, IfOk, IfErr, OnOk, OnErr, option_map, ⊤};
 ghost use Rattle.mg_bson.specs.Tree.{no_fields, field, no_items, item};
-ghost use Rattle.mg_bson.specs.Find.{get, put, without, fields_length, with_item, with_field, names, items_length, item_at, is_null, as_double, as_string, as_document, as_array, as_binary, as_object_id, as_boolean, as_date_time, as_int32, as_timestamp, as_int64};
+ghost use Rattle.mg_bson.specs.Find.{get, put, without, fields_length, with_item, with_field, names, items_length, item_at, is_null, as_double, as_string, as_document, as_array, as_binary, as_object_id, as_boolean, as_date_time, as_int32, as_timestamp, as_int64, as_decimal128};
 ghost use Rattle.mg_bson.specs.View.{tree, items_of, place};
 ghost use Rattle.mg_bson.specs.Bytes.{kind_of};
 ghost use Rattle.mg_bson.specs.declared.error.BsonError.TheVariants.{OutOfMemory};
@@ -10,7 +10,7 @@ use crate::error::BsonError;
 use crate::kind::Kind;
 use crate::name::Name;
 use crate::object_id::ObjectId;
-use std::alloc::Global;
+use std::alloc::{AllocError, Global};
 use std::marker::Model;
 use std::mem;
 
@@ -368,6 +368,18 @@ impl Bson {
         }
     }
 
+    /// The 16 bytes of a decimal floating point number, the lowest first, and nothing of another kind.
+    ///
+    ///     let Some(bytes) = value.as_decimal128() else { .. };
+    pub fn as_decimal128(&self) -> Option<[u8; 16]>
+        ensures { result ≡ as_decimal128 (tree self.now) }
+    {
+        match self {
+            Bson::Decimal128(v) => Some(*v),
+            _ => None,
+        }
+    }
+
     /// Whether the value is null.
     pub fn is_null(&self) -> bool
         ensures { result ≡ is_null (tree self.now) }
@@ -400,7 +412,7 @@ impl<'a> Model for DocumentIter<'a> {
 impl<'a> DocumentIter<'a> {
     /// The next pair, if one is left.
     pub fn next(&mut self) -> Option<(&'a str, &'a Bson)>
-        ensures { MatchOption result (self.old ≡ no_fields)
+        ensures { MatchOption result ((self.old ≡ no_fields) × (self.new ≡ no_fields))
             (λ r. self.old ≡ field r.0.now (tree r.1.now) self.new) }
     {
         match self.rest {
@@ -410,6 +422,19 @@ impl<'a> DocumentIter<'a> {
                 Some((first.name.as_str(), &first.value))
             }
         }
+    }
+}
+
+impl<'a> Clone for DocumentIter<'a> {
+    ghost is_clone = { λ v w. w ≡ v };
+
+    ghost is_infallible = { λ _. ⊤ };
+
+    /// The same pairs once more. It takes no memory: its `Result` is never an error.
+    ///
+    ///     let again = left.clone()?;
+    fn clone(&self) -> Result<DocumentIter<'a>, AllocError> {
+        Ok(DocumentIter { rest: self.rest })
     }
 }
 
@@ -433,12 +458,26 @@ impl<'a> Model for DocumentKeys<'a> {
 impl<'a> DocumentKeys<'a> {
     /// The next name, if one is left.
     pub fn next(&mut self) -> Option<&'a str>
-        ensures { MatchOption result (self.old ≡ []) (λ k. self.old ≡ k.now ∷ self.new) }
+        ensures { MatchOption result ((self.old ≡ []) × (self.new ≡ [])) (λ k. self.old ≡ k.now ∷ self.new) }
     {
         match self.left.next() {
             Some((name, _)) => Some(name),
             None => None,
         }
+    }
+}
+
+impl<'a> Clone for DocumentKeys<'a> {
+    ghost is_clone = { λ v w. w ≡ v };
+
+    ghost is_infallible = { λ _. ⊤ };
+
+    /// The same names once more. It takes no memory: its `Result` is never an error.
+    ///
+    ///     let again = left.clone()?;
+    fn clone(&self) -> Result<DocumentKeys<'a>, AllocError> {
+        let left = self.left.clone()?;
+        Ok(DocumentKeys { left })
     }
 }
 
@@ -536,12 +575,7 @@ impl Document {
 pub(crate) fn place_of(fields: &[Field], name: &str) -> Option<usize>
     ensures { result ≡ place name.now fields.now }
 {
-    for (i, field) in fields.iter().enumerate() {
-        if field.name.as_str() == name {
-            return Some(i);
-        }
-    }
-    None
+    fields.iter().position(|field| field.name.as_str() == name)
 }
 
 /// The values of an array that are left, in order. In a contract it is the list of them.
@@ -568,7 +602,7 @@ impl<'a> Model for ArrayIter<'a> {
 impl<'a> ArrayIter<'a> {
     /// The next value, if one is left.
     pub fn next(&mut self) -> Option<&'a Bson>
-        ensures { MatchOption result (self.old ≡ no_items) (λ v. self.old ≡ item (tree v.now) self.new) }
+        ensures { MatchOption result ((self.old ≡ no_items) × (self.new ≡ no_items)) (λ v. self.old ≡ item (tree v.now) self.new) }
     {
         match self.rest {
             [] => None,
@@ -577,6 +611,19 @@ impl<'a> ArrayIter<'a> {
                 Some(first)
             }
         }
+    }
+}
+
+impl<'a> Clone for ArrayIter<'a> {
+    ghost is_clone = { λ v w. w ≡ v };
+
+    ghost is_infallible = { λ _. ⊤ };
+
+    /// The same values once more. It takes no memory: its `Result` is never an error.
+    ///
+    ///     let again = left.clone()?;
+    fn clone(&self) -> Result<ArrayIter<'a>, AllocError> {
+        Ok(ArrayIter { rest: self.rest })
     }
 }
 

@@ -7,6 +7,7 @@ ghost use Rattle.mg_bson.specs.Writable.{IsWritable, Refuses};
 ghost use Rattle.mg_bson.specs.Plain.{is_plain};
 ghost use Rattle.mg_bson.specs.View.{tree};
 ghost use Rattle.mg_bson.specs.Raw.{fields};
+ghost use Rattle.mg_bson.specs.declared.error.BsonError.TheVariants.{OutOfMemory};
 
 use crate::error::BsonError;
 use crate::kind::Kind;
@@ -239,6 +240,7 @@ pub fn to_bytes(alloc: Global, document: &Document) -> Result<RawDocumentBuf, Bs
     ensures writable { OnOk result (IsWritable document.now) }
     ensures read_back { IfOk result (λ r. fields r ≡ document.now) }
     ensures err { IfErr result (λ e. Refuses e document.now) }
+    ensures memory { IfErr result (λ e. e ≡ OutOfMemory → IsWritable document.now) }
 {
     let len = document.encoded_len()?;
     let mut out = Vec::with_capacity(alloc, len)?;

@@ -57,10 +57,10 @@ fn number_of(chunk: &RawDocument<'_>) -> Option<i32>
 }
 
 // The bytes of a binary of subtype 0.
-fn bytes_of<'a>(data: &RawValue<'a>) -> Option<&'a [u8]>
-    ensures { option_map (λ b. b.now) result ≡ option_and_then of_subtype_0 (as_binary (value data.now)) }
+fn bytes_of<'a>(field: &RawValue<'a>) -> Option<&'a [u8]>
+    ensures { option_map (λ b. b.now) result ≡ option_and_then of_subtype_0 (as_binary (value field.now)) }
 {
-    match data.as_binary() {
+    match field.as_binary() {
         Some(found) => of_subtype_0(found.0, found.1),
         None => None,
     }

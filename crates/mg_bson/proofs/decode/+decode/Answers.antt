@@ -15,7 +15,7 @@ read_document-loop-name-preserved t c =
     )
 
 pub read_document-returns-clause-ok : goal.read_document-returns-clause-ok
-read_document-returns-clause-ok t c = sym (joined_all c.loop-name.document) ∙ ap (joined c.loop-name.document) (sym c.in_default.ensures) ∙ c.loop-name.invariant.0
+read_document-returns-clause-ok t c = sym (joined_all c.loop-name.document) ∙ ap (joined c.loop-name.document) (sym c.in_default.ensures.0) ∙ c.loop-name.invariant.0
 
 pub read_array-loop-value-preserved : goal.read_array-loop-value-preserved
 read_array-loop-value-preserved t c =
@@ -26,4 +26,4 @@ read_array-loop-value-preserved t c =
     )
 
 pub read_array-returns-clause-ok : goal.read_array-returns-clause-ok
-read_array-returns-clause-ok t c = sym (items_joined_all c.loop-value.array) ∙ ap (items_joined c.loop-value.array) (sym c.in_default.ensures) ∙ c.loop-value.invariant.0
+read_array-returns-clause-ok t c = sym (items_joined_all c.loop-value.array) ∙ ap (items_joined c.loop-value.array) (sym c.in_default.ensures.0) ∙ c.loop-value.invariant.0

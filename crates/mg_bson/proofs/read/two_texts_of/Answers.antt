@@ -6,6 +6,6 @@ pub overflow_add-result-2 : goal.overflow_add-result-2
 overflow_add-result-2 c =
     omega (
       arith,
-      cut_len c.args.bytes.now (c.in_ok-first.first.now, c.in_ok-first.behind.now) (sym c.in_ok-first.ensures.cut),
-      cut_len c.in_ok-first.behind.now (c.in_ok-second.second.now, c.in_ok-second.field-0-1.now) (sym c.in_ok-second.ensures.cut),
+      cut_len c.args.bytes.now (c.in_ok-first.first.now, c.in_ok-first.behind.now) (sym c.in_ok-first.ensures),
+      cut_len c.in_ok-first.behind.now (c.in_ok-second.second.now, c.in_ok-second.field-0-1.now) (sym c.in_ok-second.ensures),
     )

@@ -6,8 +6,8 @@ use Rattle.mg_bson.proofs.Inside.{other_document}
 use Rattle.mg_bson.proofs.Walking.{stops_there, goes_on_there, ended_there}
 use Rattle.mg_bson.proofs.span.are_documents.Goals as goal
 
-pub split_element-requires : goal.split_element-requires
-split_element-requires c = λ checked. c.loop-element.invariant.read
+pub split_known-requires : goal.split_known-requires
+split_known-requires c = c.loop-element.invariant.read
 
 pub returns-in_default-kind : goal.returns-in_default-kind
 returns-in_default-kind c =

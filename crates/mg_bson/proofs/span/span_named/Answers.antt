@@ -10,8 +10,8 @@ returns-in_err-left c = absurd (has_body c.args.bytes.now c.requires (sym c.in_e
 pub loop-element-init : goal.loop-element-init
 loop-element-init c = looks_at_first c.args.bytes.now c.args.name.now c.in_ok-left.left.now c.requires (sym c.in_ok-left.ensures)
 
-pub split_element-requires : goal.split_element-requires
-split_element-requires c = λ checked. c.loop-element.invariant.read
+pub split_known-requires : goal.split_known-requires
+split_known-requires c = c.loop-element.invariant.read
 
 pub overflow_sub-upto : goal.overflow_sub-upto
 overflow_sub-upto c = omega (arith, (reaches c.args.bytes.now c.args.name.now c.loop-element.left.now (element_view c.in-Some.element) c.loop-element.invariant (sym c.in-Some.ensures)).long)

@@ -13,7 +13,7 @@ items-preserved c =
     came_on (file_record c.args.file.now) c.args.place c.items.place _ (items c.args.batch.now) (items_left c.items.left) (items_left c.next.new.self) (value c.in-Some.found) c.items.invariant c.in-Some.ensures c.in_ok-place.ensures.ok
 
 pub returns-clause-ok : goal.returns-clause-ok
-returns-clause-ok c = came_all (file_record c.args.file.now) c.args.place c.items.place (items c.args.batch.now) (items_left c.items.left) c.items.invariant c.in_default.ensures
+returns-clause-ok c = came_all (file_record c.args.file.now) c.args.place c.items.place (items c.args.batch.now) (items_left c.items.left) c.items.invariant c.in_default.ensures.0
 
 pub returns-in_err-place-clause-err : goal.returns-in_err-place-clause-err
 returns-in_err-place-clause-err c =

@@ -8,8 +8,8 @@ use Rattle.mg_gridfs.proofs.Found.{left_breaks, left_gives}
 use Rattle.mg_gridfs.proofs.open_download.first_of.Goals as goal
 
 -- what stood first in what is left
-stood_first : {X : Type 0} (seen : X → Tree) (o : Option X) (batch left rest : Items) → left ≡ batch → MatchOption o (left ≡ no_items) (λ x. left ≡ item (seen x) rest) → IsFirstOf (option_map seen o) batch
-stood_first seen None batch left rest is h = sym is ∙ h
+stood_first : {X : Type 0} (seen : X → Tree) (o : Option X) (batch left rest : Items) → left ≡ batch → MatchOption o ((left ≡ no_items) × (rest ≡ no_items)) (λ x. left ≡ item (seen x) rest) → IsFirstOf (option_map seen o) batch
+stood_first seen None batch left rest is h = sym is ∙ h.0
 stood_first seen (Some x) batch left rest is h = (rest, sym is ∙ h)
 
 pub returns-clause-ok : goal.returns-clause-ok

@@ -12,4 +12,4 @@ loop-name-preserved c =
     ap (λ d. joined d rest) c.in_ok-append-2.ensures.ok ∙ joined_more d k _ rest ∙ ap (λ t. joined d (field k t rest)) c.in_ok-clone.ensures.cases ∙ ap (joined d) (sym c.in-Some-next.ensures) ∙ c.loop-name.invariant
 
 pub returns-clause-ok : goal.returns-clause-ok
-returns-clause-ok c = sym (joined_all c.loop-name.copy) ∙ ap (joined c.loop-name.copy) (sym c.in_default-next.ensures) ∙ c.loop-name.invariant
+returns-clause-ok c = sym (joined_all c.loop-name.copy) ∙ ap (joined c.loop-name.copy) (sym c.in_default-next.ensures.0) ∙ c.loop-name.invariant

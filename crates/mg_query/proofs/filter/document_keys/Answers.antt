@@ -27,6 +27,6 @@ returns-in-Some c =
 
 pub returns-in-None : goal.returns-in-None
 returns-in-None c =
-    let ends : fields c.args.inner.now ≡ no_fields = sym c.iter.ensures ∙ c.in-None.ensures in
+    let ends : fields c.args.inner.now ≡ no_fields = sym c.iter.ensures ∙ c.in-None.ensures.0 in
     let bad : true ≡ false = sym (sym c.begins_operator.ensures ∙ c.if-not-begins_operator.false) ∙ ap begins_operator ends in
     absurd cc

@@ -20,4 +20,4 @@ items-preserved c =
     (ap (option_map index_held) (sym c.in-Some-2.is) ∙ c.in_ok-index.ensures) (ap (map index_held) c.in_ok-push.ensures.items ∙ map-append index_held c.items.indexes.items (c.in-Some-2.index ∷ [])) c.items.invariant
 
 pub returns : goal.returns
-returns c = indexes_end (items_left c.items.left) (map index_held c.items.indexes.items) (indexes_among (items c.args.array.now)) c.in_default.ensures c.items.invariant
+returns c = indexes_end (items_left c.items.left) (map index_held c.items.indexes.items) (indexes_among (items c.args.array.now)) c.in_default.ensures.0 c.items.invariant

@@ -9,4 +9,4 @@ fields-preserved c =
     anew_goes (fields c.args.document.now) c.fields.anew _ c.fields.left c.next.new.self (set_anew (fields c.args.document.now) c.args.sets.now) c.in-Some.name.now (tree c.in-Some.value.now) c.in-Some.ensures c.in_ok-anew.ensures c.fields.invariant
 
 pub returns : goal.returns
-returns c = anew_ends (fields c.args.document.now) c.fields.anew c.fields.left (set_anew (fields c.args.document.now) c.args.sets.now) c.in_default.ensures c.fields.invariant
+returns c = anew_ends (fields c.args.document.now) c.fields.anew c.fields.left (set_anew (fields c.args.document.now) c.args.sets.now) c.in_default.ensures.0 c.fields.invariant

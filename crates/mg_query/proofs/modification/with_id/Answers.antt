@@ -18,4 +18,4 @@ fields-preserved c =
     c.if-is_first_id.false (c.in_ok-document.ensures ∙ ap (with_field c.fields.document c.in-Some.name.now) c.in_ok-value.ensures) c.fields.invariant
 
 pub returns : goal.returns
-returns c = all_behind c.fields.document (fields_left c.fields.left) (with_id (Some (tree c.args.id)) (fields c.args.new.now)) c.fields.passed c.in_default.ensures c.fields.invariant
+returns c = all_behind c.fields.document (fields_left c.fields.left) (with_id (Some (tree c.args.id)) (fields c.args.new.now)) c.fields.passed c.in_default.ensures.0 c.fields.invariant

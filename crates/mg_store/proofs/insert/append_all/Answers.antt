@@ -47,4 +47,4 @@ documents-preserved c keeps =
 
 pub returns : goal.returns
 returns c keeps =
-    insert_ends (space c.args.ns.now) c.args.ordered c.args.entries c.documents.index (there c.args.collection) c.documents.appended (documents_among (items_left c.documents.left)) _ (ap documents_among c.in_default.ensures) (c.documents.invariant keeps)
+    insert_ends (space c.args.ns.now) c.args.ordered c.args.entries c.documents.index (there c.args.collection) c.documents.appended (documents_among (items_left c.documents.left)) _ (ap documents_among c.in_default.ensures.0) (c.documents.invariant keeps)

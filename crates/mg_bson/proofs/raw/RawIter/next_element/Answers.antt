@@ -4,7 +4,9 @@ use Rattle.mg_bson.proofs.Lending.{no_element, some_element}
 use Rattle.mg_bson.proofs.raw.RawIter.next_element.Goals as goal
 
 pub returns-in_err-element : goal.returns-in_err-element
-returns-in_err-element c = rw c.from_residual.ensures (rw (← c.self.view_is) (no_element c.self.inside.rest.now c.self.invariant (sym c.in_err-element.ensures)))
+returns-in_err-element c =
+    let none = no_element c.self.inside.rest.now c.self.invariant (sym c.in_err-element.ensures) in
+    rw c.from_residual.ensures (rw (← c.self.view_is) (none, none))
 
 pub invariant_of-self : goal.invariant_of-self
 invariant_of-self c = (some_element c.self.inside.rest.now (element_view c.in_ok-element.element) c.self.invariant (sym c.in_ok-element.ensures)).rest

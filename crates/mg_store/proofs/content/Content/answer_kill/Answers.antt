@@ -87,7 +87,7 @@ ids-preserved c =
 pub returns : goal.returns
 returns c s given h =
     let l = c.ids.invariant.lists s given h in
-    let none : ids_among (items_left c.ids.left) ≡ [] = ap ids_among c.in_default.ensures in
+    let none : ids_among (items_left c.ids.left) ≡ [] = ap ids_among c.in_default.ensures.0 in
     kill_settles s given (ids_among (items c.args.ids.now)) c.ids.named c.ids.killed c.ids.not_found c.in_ok-document.document c.answered.result
     (lists_end true s c.ids.killed c.ids.named.items (ids_among (items_left c.ids.left)) (ids_among (items c.args.ids.now)) none l.0)
     (lists_end false s c.ids.not_found c.ids.named.items (ids_among (items_left c.ids.left)) (ids_among (items c.args.ids.now)) none l.1)
