@@ -22,7 +22,12 @@ const READERS: &str = "\
 0c0000001078000100000000 i32 x -> Ok(1)
 1000000011780001000000feffffff00 timestamp x -> Ok(Timestamp { time: 4294967294, increment: 1 })
 10000000127800fdffffffffffffff00 i64 x -> Ok(-3)
+18000000137800000102030405060708090a0b0c0d0e0f00 decimal128 x -> Ok([0, 1, 2, 3, 4, 5, 6, 7, 8, 9, 10, 11, 12, 13, 14, 15])
+080000000a780000 null x -> true
+0c0000001078000100000000 null x -> false
+080000000a780000 null y -> false
 0c0000001078000100000000 i64 x -> Err(UnexpectedType)
+0c0000001078000100000000 decimal128 x -> Err(UnexpectedType)
 080000000a780000 str x -> Err(UnexpectedType)
 10000000107800010000000878000100 bool x -> Err(UnexpectedType)
 0c0000001078000100000000 i32 y -> Err(NotPresent)
@@ -51,7 +56,10 @@ fn found_by(
         "datetime" => shown(alloc, document.get_datetime(name)),
         "i32" => shown(alloc, document.get_i32(name)),
         "timestamp" => shown(alloc, document.get_timestamp(name)),
-        _ => shown(alloc, document.get_i64(name)),
+        "i64" => shown(alloc, document.get_i64(name)),
+        "decimal128" => shown(alloc, document.get_decimal128(name)),
+        "null" => shown(alloc, document.is_null(name)),
+        _ => String::from_str(alloc, reader),
     }
 }
 
@@ -77,6 +85,10 @@ const LENDERS: &str = "\
 10000000017800000000000000f03f00 double -> Some([0, 0, 0, 0, 0, 0, 240, 63])
 0f0000000578000200000000010200 binary -> Some((0, [1, 2]))
 140000000778000102030405060708090a0b0c00 object_id -> Some(ObjectId([1, 2, 3, 4, 5, 6, 7, 8, 9, 10, 11, 12]))
+18000000137800000102030405060708090a0b0c0d0e0f00 decimal128 -> Some([0, 1, 2, 3, 4, 5, 6, 7, 8, 9, 10, 11, 12, 13, 14, 15])
+080000000a780000 null -> true
+0c0000001078000100000000 null -> false
+0c0000001078000100000000 decimal128 -> None
 0c0000001078000100000000 double -> None
 0c0000001078000100000000 binary -> None
 0c0000001078000100000000 object_id -> None
@@ -87,7 +99,10 @@ fn lent_by(alloc: Global, reader: &str, value: &RawValue<'_>) -> Result<String, 
     match reader {
         "double" => shown(alloc, value.as_double()),
         "binary" => shown(alloc, value.as_binary()),
-        _ => shown(alloc, value.as_object_id()),
+        "object_id" => shown(alloc, value.as_object_id()),
+        "decimal128" => shown(alloc, value.as_decimal128()),
+        "null" => shown(alloc, value.is_null()),
+        _ => String::from_str(alloc, reader),
     }
 }
 
