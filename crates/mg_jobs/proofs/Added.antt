@@ -83,7 +83,7 @@ deleted_are_modest : (place : ℕ) (space : Space) (ds : List Fields) → length
 deleted_are_modest place space [] db coll short may = tt
 deleted_are_modest place space (d ∷ ds) db coll short may =
     let parts = and_parts (may_be_given (deleted_event (suc place) space d)) (events_may_be_given (deleted_entries (suc place) space ds)) may in
-    ((deleted_modest (suc place) space d db coll short.0 (leb-true (levels (deleted_event (suc place) space d)) max_given_levels parts.0), refl), deleted_are_modest (suc place) space ds db coll short.1 parts.1)
+    ((deleted_modest (suc place) space d db coll short.0.0 (leb-true (levels (deleted_event (suc place) space d)) max_given_levels parts.0), refl), deleted_are_modest (suc place) space ds db coll short.1 parts.1)
 
 -- ---- what a mild command appends
 

@@ -57,7 +57,7 @@ use Rattle.mg_change.specs.OpeningCauses as openings
 use Rattle.mg_players.specs.Causes.{AllCaused, AllSentIn, Answered, CloseCaused, Closed, Course, FollowCaused, GetCaused, InsertEnds, OpenCaused, OpenFailed, OutcomeCaused, PutEnds, SentIn, course, sent_at}
 use Rattle.mg_jobs.specs.Completing.{AllWell, AnswerWell, AnswersAreWell, AnswersWell, AreFresh, CallsWell, EndsWell, Excuses, FindsNothing, FitsLimits, FollowWell, GetWell, IsExcused, IsExcusedGet, IsExcusedInsert, IsMemory, IsShort, IsTooLarge, JobWell, NoneLeft, Nothings, OutcomeEnds, OutcomeFits, OutcomeGot, OutcomeWell, SendFresh, finds_none, is_over, own_excuses, takes_again, takes_first}
 use Rattle.mg_players.specs.Counts.{Faultless, LosesNothing}
-use Rattle.mg_players.specs.Drawing.{as_sent}
+use Rattle.mg_players.specs.Drawing.{as_sent, supply_of}
 use Rattle.mg_players.specs.Follows.{IsArgsFor, poll_of}
 use Rattle.mg_players.specs.Gets.{GetTask, IsGetCommand, get_of}
 use Rattle.mg_players.specs.Headline.{AllFiled, GetGave, OutcomeFiled}
@@ -66,7 +66,7 @@ use Rattle.mg_ops.specs.InsertCauses.{InsertFails, IsPiece, ListsFor, cannot_enc
 use Rattle.mg_script.specs.Plan.{Begin, Task, follow, get, insert, put}
 use Rattle.mg_players.specs.Progress.{AllPlayed, FollowPlayed, GetPlayed, InsertPlayed, IsPlayed, OpenPlayed, PutPlayed, pends_last, turns_done}
 use Rattle.mg_jobs.specs.PutLimits.{HasFewIndexes, IsExcusedPut, IsValidPut}
-use Rattle.mg_players.specs.Puts.{PutTask, put_of}
+use Rattle.mg_players.specs.Puts.{PutTask, Supply, put_of}
 use Rattle.mg_players.specs.Sends.{AllSendOnly, MaySend, SendsOnly}
 use Rattle.mg_script.specs.declared.outcome.Answer.{Answer}
 use Rattle.mg_script.specs.declared.outcome.Answer.TheVariants as answers
@@ -468,43 +468,43 @@ module _ (awaited : Awaited) (c : Course) (i : ℕ) (begun calls : List Call) (w
 abbrev own_step : (own : List ℕ) (history : List Step) (command : Fields) (bytes : List ℕ) (call : Call) → Taken own history command bytes call → OwnStep own history command bytes
 own_step own history command bytes call t = record { position = t.position; step = t.step; is_own = t.is_own; there = t.there; at_once = t.at_once; before_is = t.before_is; command_is = t.command_is; reply_is = t.reply_is }
 
-put_ends : (awaited : Awaited) (c : Course) (i : ℕ) (begun calls : List Call) (wire : ℤ) → length begun ≡ c.begun → Faultless begun calls → (well : AnswersWell c i calls) (t : PutTask) → IsValidPut t → SendFresh well.own well.history → HasFewIndexes well.own well.history t → (end : Ended ℕ) (k : ℕ) (last : Bool) → PutEnds awaited c i calls wire t end → PutPlayed end (length t.pieces) k last
+put_ends : (awaited : Awaited) (c : Course) (i : ℕ) (begun calls : List Call) (wire : ℤ) (supply : Supply) → length begun ≡ c.begun → Faultless begun calls → (well : AnswersWell c i calls) (t : PutTask) → IsValidPut t → SendFresh well.own well.history → HasFewIndexes well.own well.history t → (end : Ended ℕ) (k : ℕ) (last : Bool) → PutEnds awaited c i calls wire supply t end → PutPlayed end (length t.pieces) k last
     → length t.pieces + 2 ≤ k → EndsWell (IsExcusedPut (IsHeard c i calls) t) end
-put_ends awaited c i begun calls wire whole faultless well t valid fresh few end k last ends played turns =
+put_ends awaited c i begun calls wire supply whole faultless well t valid fresh few end k last ends played turns =
     let n : ℕ = suc (length ends.owns) in
-    put_well well.own well.history well.legal (sent_at ends.places calls wire) (IsHeard c i calls) (never_lost c i n begun calls wire ends.places whole faultless well ends.sent)
-    (λ command bytes h. own_step well.own well.history command bytes h.heard.call (taken c i n begun calls wire ends.places whole faultless well ends.sent command bytes h)) (hears c i n begun calls wire ends.places whole faultless well ends.sent)
-    t valid fresh
-    (λ place place' command command' bytes bytes' h h' less.
+    put_well well.own well.history well.legal (sent_at ends.places calls wire) (IsHeard c i calls) t (never_lost c i n begun calls wire ends.places whole faultless well ends.sent)
+    (λ command bytes h known. own_step well.own well.history command bytes h.heard.call (taken c i n begun calls wire ends.places whole faultless well ends.sent command bytes h)) (hears c i n begun calls wire ends.places whole faultless well ends.sent)
+    valid fresh
+    (λ place place' command command' bytes bytes' h h' k k' less.
     let before = taken c i n begun calls wire ends.places whole faultless well ends.sent command bytes (record { place = place; heard = h }) in
     let behind = taken c i n begun calls wire ends.places whole faultless well ends.sent command' bytes' (record { place = place'; heard = h' }) in
     well.stands.rising place place' h.call h'.call before.position behind.position less h.there h'.there before.position_is behind.position_is) few (sent_at (concat ends.owns ++ ends.places) calls wire) end k last ends.by played turns
 
 -- ---- a job
 
-jobs_end_well : (awaited : Awaited) (c : Course) (i : ℕ) (begun calls : List Call) (wire : ℤ) (t : Task) (r : Outcome) → length begun ≡ c.begun → Faultless begun calls → OutcomeCaused awaited c i calls wire t r
+jobs_end_well : (awaited : Awaited) (c : Course) (i : ℕ) (begun calls : List Call) (wire : ℤ) (supply : Supply) (t : Task) (r : Outcome) → length begun ≡ c.begun → Faultless begun calls → OutcomeCaused awaited c i calls wire supply t r
     → IsPlayed t (turns_done i c.order c.notes) (pends_last i c.order c.notes) r → OutcomeGot c i calls t r → OutcomeWell c i calls t r
-jobs_end_well awaited c i begun calls wire (follow on count start filter batch) r whole faultless caused played got =
+jobs_end_well awaited c i begun calls wire supply (follow on count start filter batch) r whole faultless caused played got =
     let k : ℕ = turns_done i c.order c.notes in
     let last : Bool = pends_last i c.order c.notes in
     follow_both (λ opened said token alive closed. FollowCaused awaited c i count calls wire on start filter batch opened said.items token alive closed) (λ opened said token alive closed. FollowPlayed opened closed count (length said.items) alive k last)
     (λ opened said token alive closed. (by : AnswersWell c i calls) → (SizePasses batch → ⊥) → suc count ≤ k → FollowWell (IsExcused (IsArgsFor on start filter batch) (IsHeard c i calls)) (FindsNothing c i calls by.history) count opened said.items closed)
     (λ opened said token alive closed why plays well small turns. follow_well awaited c i begun calls wire whole faultless well on start filter batch small opened count k last said.items token alive closed why plays turns)
     r caused played
-jobs_end_well awaited c i begun calls wire (insert ns docs) r whole faultless caused played got =
+jobs_end_well awaited c i begun calls wire supply (insert ns docs) r whole faultless caused played got =
     let k : ℕ = turns_done i c.order c.notes in
     let last : Bool = pends_last i c.order c.notes in
     insert_both (λ end. InsertEnds awaited c i calls wire ns docs end) (λ end. InsertPlayed end k last) (λ end. (answers : AnswersWell c i calls) → IsNamed ns → SendFresh answers.own answers.history → 1 ≤ k → EndsWell (IsExcusedInsert ns docs) end)
     (λ end why plays well named fresh turns. insert_well awaited c i begun calls wire whole faultless well ns docs named fresh end k last why plays turns)
     r caused played
-jobs_end_well awaited c i begun calls wire (put db bucket name id chunk pieces) r whole faultless caused played got =
+jobs_end_well awaited c i begun calls wire supply (put db bucket name id chunk pieces) r whole faultless caused played got =
     let k : ℕ = turns_done i c.order c.notes in
     let last : Bool = pends_last i c.order c.notes in
     let t : PutTask = put_of db bucket name id chunk pieces in
-    put_both (λ end. PutEnds awaited c i calls wire t end) (λ end. PutPlayed end (length pieces) k last) (λ end. (answers : AnswersWell c i calls) → IsValidPut t → SendFresh answers.own answers.history → HasFewIndexes answers.own answers.history t → length pieces + 2 ≤ k → EndsWell (IsExcusedPut (IsHeard c i calls) t) end)
-    (λ end why plays well valid fresh few turns. put_ends awaited c i begun calls wire whole faultless well t valid fresh few end k last why plays turns)
+    put_both (λ end. PutEnds awaited c i calls wire supply t end) (λ end. PutPlayed end (length pieces) k last) (λ end. (answers : AnswersWell c i calls) → IsValidPut t → SendFresh answers.own answers.history → HasFewIndexes answers.own answers.history t → length pieces + 2 ≤ k → EndsWell (IsExcusedPut (IsHeard c i calls) t) end)
+    (λ end why plays well valid fresh few turns. put_ends awaited c i begun calls wire supply whole faultless well t valid fresh few end k last why plays turns)
     r caused played
-jobs_end_well awaited c i begun calls wire (get db bucket id read) r whole faultless caused played got =
+jobs_end_well awaited c i begun calls wire supply (get db bucket id read) r whole faultless caused played got =
     let k : ℕ = turns_done i c.order c.notes in
     let last : Bool = pends_last i c.order c.notes in
     let g : GetTask = get_of db bucket id read in
@@ -601,24 +601,24 @@ fits_memory c i calls (get db bucket id read) fit short e excused =
 jobs_fit : (c : Course) (i : ℕ) (calls : List Call) (t : Task) (r : Outcome) → OutcomeWell c i calls t r → OutcomeFits c i calls t r
 jobs_fit c i calls t r well fit = outcome_so (own_excuses c i calls t) IsMemory (fits_memory c i calls t fit) c i calls t r well
 
-pub jobs_end : (awaited : Awaited) (c : Course) (i : ℕ) (begun calls : List Call) (wire : ℤ) (t : Task) (r : Outcome) → length begun ≡ c.begun → Faultless begun calls → OutcomeCaused awaited c i calls wire t r → IsPlayed t (turns_done i c.order c.notes) (pends_last i c.order c.notes) r → OutcomeGot c i calls t r
+pub jobs_end : (awaited : Awaited) (c : Course) (i : ℕ) (begun calls : List Call) (wire : ℤ) (supply : Supply) (t : Task) (r : Outcome) → length begun ≡ c.begun → Faultless begun calls → OutcomeCaused awaited c i calls wire supply t r → IsPlayed t (turns_done i c.order c.notes) (pends_last i c.order c.notes) r → OutcomeGot c i calls t r
     → JobWell c i calls t r
-jobs_end awaited c i begun calls wire t r whole faultless caused played got = let well = jobs_end_well awaited c i begun calls wire t r whole faultless caused played got in (well, jobs_fit c i calls t r well)
+jobs_end awaited c i begun calls wire supply t r whole faultless caused played got = let well = jobs_end_well awaited c i begun calls wire supply t r whole faultless caused played got in (well, jobs_fit c i calls t r well)
 
 -- ---- a run
 
 -- what a get sent and gave
-has_got : (ids : ℕ → List ℕ) (tasks : List Task) (c : Course) (i : ℕ) (calls : List Call) (t : Task) (r : Outcome) → SendsOnly (MaySend (as_sent ids tasks c.order i t)) c i calls → OutcomeFiled c i calls t r → OutcomeGot c i calls (as_sent ids tasks c.order i t) r
-has_got ids tasks c i calls (follow on count start filter batch) r sends filed = tt
-has_got ids tasks c i calls (insert ns docs) r sends filed = tt
-has_got ids tasks c i calls (put db bucket name id chunk pieces) r sends filed = tt
-has_got ids tasks c i calls (get db bucket id read) r sends filed =
+has_got : (supply : Supply) (tasks : List Task) (c : Course) (i : ℕ) (calls : List Call) (t : Task) (r : Outcome) → SendsOnly (MaySend (supply_of supply tasks c.order i) (as_sent supply.ids tasks c.order i t)) c i calls → OutcomeFiled c i calls t r → OutcomeGot c i calls (as_sent supply.ids tasks c.order i t) r
+has_got supply tasks c i calls (follow on count start filter batch) r sends filed = tt
+has_got supply tasks c i calls (insert ns docs) r sends filed = tt
+has_got supply tasks c i calls (put db bucket name id chunk pieces) r sends filed = tt
+has_got supply tasks c i calls (get db bucket id read) r sends filed =
     let g : GetTask = get_of db bucket id read in
     get_both (λ bytes end. GetGave c i calls g bytes.items end) (λ bytes end. GetGave c i calls g bytes.items end) (λ bytes end. SendsOnly (IsGetCommand g) c i calls × GetGave c i calls g bytes.items end) (λ bytes end gave again. (sends, gave)) r filed filed
 
-module _ (ids : ℕ → List ℕ) (awaited : Awaited) (log log' : LogTold) (wire : ℤ) (tasks : List Task) (order : List ℕ) where
-  all_well : (notes : List Turned) (outcomes : List Outcome) → LosesNothing log log' → AllCaused ids awaited log log' wire tasks order notes outcomes → AllPlayed tasks order notes outcomes → AllFiled log log' tasks order notes outcomes → AllSendOnly ids log log' tasks order notes
-      → AllWell ids log log' tasks order notes outcomes
+module _ (supply : Supply) (awaited : Awaited) (log log' : LogTold) (wire : ℤ) (tasks : List Task) (order : List ℕ) where
+  all_well : (notes : List Turned) (outcomes : List Outcome) → LosesNothing log log' → AllCaused supply awaited log log' wire tasks order notes outcomes → AllPlayed tasks order notes outcomes → AllFiled log log' tasks order notes outcomes → AllSendOnly supply log log' tasks order notes
+      → AllWell supply.ids log log' tasks order notes outcomes
   all_well notes outcomes lossless caused played filed sends calls told =
       let by = caused calls told in
       let kept = lossless calls told in
@@ -632,12 +632,12 @@ module _ (ids : ℕ → List ℕ) (awaited : Awaited) (log log' : LogTold) (wire
       let c : Course = course calls order notes in (
         by.0,
         by.1,
-        (λ i t r ht hr. jobs_end awaited c i calls by.0 wire (as_sent ids tasks order i t) r refl (subst (λ (cs : List Call). Faultless calls cs) same kept.2) (by.2 i t r ht hr) (played_as_sent ids tasks order i t (turns_done i order notes) (pends_last i order notes) r (played i t r ht hr))
-            (has_got ids tasks c i by.0 t r (subst (λ (cs : List Call). SendsOnly (MaySend (as_sent ids tasks order i t)) c i cs) sent_is (sent.2 i t ht)) (subst (λ (cs : List Call). OutcomeFiled c i cs t r) gave_is (gave.2 i t r ht hr)))),
+        (λ i t r ht hr. jobs_end awaited c i calls by.0 wire (supply_of supply tasks order i) (as_sent supply.ids tasks order i t) r refl (subst (λ (cs : List Call). Faultless calls cs) same kept.2) (by.2 i t r ht hr) (played_as_sent supply.ids tasks order i t (turns_done i order notes) (pends_last i order notes) r (played i t r ht hr))
+            (has_got supply tasks c i by.0 t r (subst (λ (cs : List Call). SendsOnly (MaySend (supply_of supply tasks order i) (as_sent supply.ids tasks order i t)) c i cs) sent_is (sent.2 i t ht)) (subst (λ (cs : List Call). OutcomeFiled c i cs t r) gave_is (gave.2 i t r ht hr)))),
       )
 
   -- the same of a run, unless memory ran out
-  pub well_so : (result : Result Played Error) → LosesNothing log log' → IfOk result (λ p. AllCaused ids awaited log log' wire tasks order p.turns.items p.outcomes.items) → IfOk result (λ p. AllPlayed tasks order p.turns.items p.outcomes.items) → IfOk result (λ p. AllFiled log log' tasks order p.turns.items p.outcomes.items)
-      → IfOk result (λ p. AllSendOnly ids log log' tasks order p.turns.items) → IfOk result (λ p. AllWell ids log log' tasks order p.turns.items p.outcomes.items)
+  pub well_so : (result : Result Played Error) → LosesNothing log log' → IfOk result (λ p. AllCaused supply awaited log log' wire tasks order p.turns.items p.outcomes.items) → IfOk result (λ p. AllPlayed tasks order p.turns.items p.outcomes.items) → IfOk result (λ p. AllFiled log log' tasks order p.turns.items p.outcomes.items)
+      → IfOk result (λ p. AllSendOnly supply log log' tasks order p.turns.items) → IfOk result (λ p. AllWell supply.ids log log' tasks order p.turns.items p.outcomes.items)
   well_so (Ok p) lossless caused played filed sends = all_well p.turns.items p.outcomes.items lossless caused played filed sends
   well_so (Err e) lossless caused played filed sends = tt

@@ -1,5 +1,5 @@
 -- A creation that a store refused since the collection is there: what its reply tells of its write concern, and that a server which holds nothing back may answer so.
-use Rattle.std.proofs.Common.{◌≡◌, ◌<◌, ℕ, zero, suc, ℤ, pos, Bool, true, false, List, [], ◌∷◌, Contains, Ok, Some, take, refl, sym, ap, ◌∙◌, subst, arith, inl, inr}
+use Rattle.std.proofs.Common.{◌≡◌, ℕ, zero, suc, ℤ, pos, Bool, true, false, List, [], ◌∷◌, Contains, Ok, Some, take, refl, sym, ap, ◌∙◌, subst, arith, inl, inr}
 use Rattle.std.specs.Prelude.{codes, slice_get}
 use Rattle.std.proofs.lemmas.List.Elements.{Contains-push_cases}
 use Rattle.mg_bson.specs.Find.{get}
@@ -10,7 +10,7 @@ use Rattle.mg_link.specs.History.{Step, state_of, step_after, told_at}
 use Rattle.mg_link.specs.Kept.{AreByRulesFrom, Follows, IsByRules, Kept, by_choice, by_rules, given_after, state_behind, step_of, steps_from, steps_of}
 use Rattle.mg_link.specs.Namespace.{Space}
 use Rattle.mg_link.specs.Prompt.{AnswersAtOnce, HoldsBackNone, IsPrompt, IsRefused, MeetsConcern}
-use Rattle.mg_link.specs.Rules.{Answer, Request, answer, answer_of, answer_with, create_collection, create_indexes, delete, done_reply, drop_collection, find, insert, kill, more, refusal, update, watch}
+use Rattle.mg_link.specs.Rules.{Answer, Request, answer, answer_of, create_collection, create_indexes, delete, done_reply, drop_collection, find, insert, kill, more, refusal, update, watch}
 use Rattle.mg_link.specs.State.{State, collection_in, nothing}
 use Rattle.mg_link.proofs.Allowed.{Rule, answers_by, create_ok, refuses_by, rule_is}
 use Rattle.mg_link.proofs.Owners.{same_some}

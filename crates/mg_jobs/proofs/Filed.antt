@@ -1,5 +1,5 @@
 -- What becomes of files, by the steps of their jobs.
-use Rattle.std.proofs.Common.{◌≡◌, ◌⊎◌, ◌+◌, ◌<◌, ◌≤◌, ◌++◌, ◌∷◌, [], ℕ, zero, suc, ℤ, List, Option, Some, None, option_map, length, take, refl, sym, ap, ◌∙◌, subst, inl, inr, arith, append-nil, append_assoc}
+use Rattle.std.proofs.Common.{◌≡◌, ◌⊎◌, ◌+◌, ◌-◌, ◌<◌, ◌≤◌, ◌++◌, ◌∷◌, [], ℕ, zero, suc, ℤ, List, Option, Some, None, option_map, length, take, refl, sym, ap, ◌∙◌, subst, inl, inr, arith, append-nil, append_assoc}
 use Rattle.std.specs.Prelude.{codes, option_and_then, slice_get, unwrap_or}
 use Rattle.std.proofs.lemmas.List.{take_all}
 use Rattle.mg_bson.specs.Find.{get}
@@ -7,6 +7,7 @@ use Rattle.mg_bson.specs.Raw.{fields}
 use Rattle.mg_bson.specs.Tree.{Fields, Tree}
 use Rattle.mg_link.specs.Commands.{Asked, as_integer, asked, asked_by, asks_more, asks_other, more_of, space_at}
 use Rattle.mg_link.specs.Files.{AreChunks, Bucket, File, IsWhole, LeavesFile, chunked, file_of}
+use Rattle.mg_link.specs.Calls.{Past}
 use Rattle.mg_link.specs.Filing as filing
 use Rattle.mg_link.specs.Filing.{IsOwnStep, KnowsFile, Leaves, cleared}
 use Rattle.mg_link.specs.History.{IsLegal, IsLegalFrom, Step, state_after, state_of, step_after, told_at}
@@ -17,6 +18,8 @@ use Rattle.mg_link.specs.Namespace.{Space}
 use Rattle.mg_link.specs.Standing.{Stands}
 use Rattle.mg_link.specs.State.{State, nothing}
 use Rattle.mg_link.specs.Step.{May}
+use Rattle.mg_link.specs.declared.error.Error.{Error}
+use Rattle.mg_link.proofs.Files.{quiet_stays}
 use Rattle.mg_link.proofs.Owners.{same_some}
 use Rattle.mg_link.proofs.Places.{get_within}
 use Rattle.mg_gridfs.specs.Storing.{HasStored}
@@ -29,13 +32,13 @@ use Rattle.mg_gridfs.specs.Downloads.{ClientDownload, Doing}
 use Rattle.mg_gridfs.specs.DownloadView.{download_of}
 use Rattle.mg_gridfs.proofs.Meaning.{IsReading, find_reads, leaves_by, read_leaves}
 use Rattle.mg_gridfs.proofs.ReadBack.{download_reads, download_reads_until, stays_at}
-use Rattle.mg_records.specs.FileRecords.{FileRecord}
-use Rattle.mg_players.specs.Causes.{Course, SentIn, places_of, sent_at}
-use Rattle.mg_players.specs.Files.{IsFirstStepOf, IsLastStepOf, IsStepOf, LeftNoChunk, LeftWhole, OthersLeave, OthersLeaveFrom}
+use Rattle.mg_records.specs.FileRecords.{FileRecord, file_record_of}
+use Rattle.mg_players.specs.Causes.{AllSentIn, Course, SentIn, places_of, sent_at}
+use Rattle.mg_players.specs.Files.{FindsBroken, HasReadOther, IsFirstStepOf, IsLastStepOf, IsStepOf, LeftNoChunk, LeftWhole, NeverWhole, OthersLeave, OthersLeaveFrom, no_record, not_counted, other_chunks}
 use Rattle.mg_players.specs.Gets.{GetKnowsAt, GetTask, IsGetCommand, chunks_find, for_chunks, for_more, for_record, get_end, more_chunks, record_find, sought}
 use Rattle.mg_players.specs.Headline.{GaveFront, GetGave, GetPlays, PutLeft}
 use Rattle.mg_players.specs.Plays.{Places, all_places}
-use Rattle.mg_players.specs.Puts.{PutTask, joined, put_aim, put_end}
+use Rattle.mg_players.specs.Puts.{PutTask, Supply, joined, put_aim, put_end}
 use Rattle.mg_players.specs.Sends.{SendsOnly}
 use Rattle.mg_players.specs.Telling.{AllSent, GetTells, PutTells, TellsGetOpened}
 use Rattle.mg_players.specs.declared.get.GetPlayer.{GetPlayer}
@@ -44,6 +47,9 @@ use Rattle.mg_players.specs.declared.get.GetStage.TheVariants as gets
 use Rattle.mg_players.specs.declared.put.PutStage.{PutStage}
 use Rattle.mg_players.specs.declared.put.PutStage.TheVariants as puts
 use Rattle.mg_script.specs.declared.outcome.Ended.TheVariants as ended
+use Rattle.mg_players.proofs.GetBlamed.{Blamed, FoundAt, OwnAt, blamed, found_at}
+use Rattle.mg_players.proofs.GetBroken.{Broke, broke, count_broke, record_broke}
+use Rattle.mg_players.proofs.GetDiffering.{whole_never}
 use Rattle.mg_jobs.proofs.Positions.{sent_place}
 
 -- ---- whose steps these are
@@ -119,13 +125,13 @@ put_sent_none c i calls t none history legal stands leave last upto is_last behi
     absurd (subst (λ (l : List ℕ). IsOf l own.place) none (sent_place c i own.done own.place own.sent))
 
 -- What a put tells at the end of a run says what it left.
-pub put_filed : (awaited : Awaited) (c : Course) (i n : ℕ) (calls : List Call) (wire : ℤ) (t : PutTask) (q : Places) (done : ℕ) (s : PutStage) → PutTells awaited calls wire q t done s → AllSent c i q n → PutLeft c i calls t (put_end s)
-put_filed awaited c i n calls wire t q done puts.Undrawn tells sent = tt
-put_filed awaited c i n calls wire t q done (puts.Begins begun) tells sent = tt
-put_filed awaited c i n calls wire t q done (puts.Goes going) tells sent = tt
-put_filed awaited c i n calls wire t q done (puts.Ended ended.Unfinished) tells sent = tt
-put_filed awaited c i n calls wire t q done (puts.Ended (ended.Gave size)) tells sent = put_left c i calls wire (all_places q) t sent.whole tells.2.2
-put_filed awaited c i n calls wire t q done (puts.Ended (ended.Failed e)) tells sent =
+pub put_filed : (awaited : Awaited) (c : Course) (i n : ℕ) (calls : List Call) (wire : ℤ) (supply : Supply) (t : PutTask) (q : Places) (done : ℕ) (s : PutStage) → PutTells awaited calls wire q supply t done s → AllSent c i q n → PutLeft c i calls t (put_end s)
+put_filed awaited c i n calls wire supply t q done puts.Undrawn tells sent = tt
+put_filed awaited c i n calls wire supply t q done (puts.Begins begun) tells sent = tt
+put_filed awaited c i n calls wire supply t q done (puts.Goes going) tells sent = tt
+put_filed awaited c i n calls wire supply t q done (puts.Ended ended.Unfinished) tells sent = tt
+put_filed awaited c i n calls wire supply t q done (puts.Ended (ended.Gave size)) tells sent = put_left c i calls wire (all_places q) t sent.whole tells.2.2
+put_filed awaited c i n calls wire supply t q done (puts.Ended (ended.Failed e)) tells sent =
     λ leaves. elim tells.2 [
       | inl cannot ↦ put_sent_none c i calls t (sym sent.whole ∙ cannot.1)
       | inr fails ↦ put_cleared c i calls wire (all_places q) t sent.whole (fails.2 leaves)
@@ -216,6 +222,74 @@ nothing_front c i calls g bytes none history legal stands first last is_first is
 listed_sent : (c : Course) (i n : ℕ) (calls : List Call) (wire : ℤ) (g : GetTask) (f : FileRecord) (at : Option ℕ) (q : Places) (listed : ℕ) → TellsGetOpened calls wire q g f at → AllSent c i q n → at ≡ Some listed → SentIn c i 0 listed
 listed_sent c i n calls wire g f at q listed t sent is = sent.opened listed (t.listed listed is)
 
+-- ---- chunks that are blamed
+
+-- a step at one of these places is one of the job
+its_own : (c : Course) (i k : ℕ) (calls : List Call) (wire : ℤ) (places : List ℕ) → AllSentIn c i k places → (position : ℕ) → OwnAt (sent_at places calls wire) position → IsStepOf c i calls position
+its_own c i k calls wire places sent position x =
+    let own : SentIn c i k x.place = elim x.own [
+      | inl of ↦ sent x.place of
+      | inr late ↦ let within = get_within calls x.place x.call x.there in absurd (omega (arith, late, within))
+    ] in
+    record { done = k; place = x.place; sent = own; call = x.call; there = x.there; placed = x.placed }
+
+module _ (c : Course) (i n : ℕ) (calls : List Call) (wire : ℤ) (g : GetTask) (q : Places) (sent : AllSent c i q n) (e : Error) (b : Blamed calls wire q g e) where
+  abbrev its_past : Past
+  its_past = sent_at q.opened calls wire
+
+  -- the record that it found, in a history
+  its_record : (history : List Step) → IsLegal history → Stands calls history → FoundAt its_past history g b.file
+  its_record history legal stands = found_at its_past history legal stands g b.other.named b.file b.opened.heard
+
+  found_own : (history : List Step) (x : FoundAt its_past history g b.file) → IsStepOf c i calls x.position
+  found_own history x = its_own c i 0 calls wire q.opened sent.opened x.position x.step
+
+  -- it is not so of a whole file
+  never_whole : SendsOnly (IsGetCommand g) c i calls → NeverWhole c i calls g.at g.id
+  never_whole sends history legal stands first last is_first is_last leave whole size w =
+      let x = its_record history legal stands in
+      let leaves = all_leave c i calls g sends history legal stands first last is_first is_last leave in
+      let low = is_first.first x.position (found_own history x) in
+      let high = is_last.last x.position (found_own history x) in
+      let step = stands.same x.step.place x.step.call x.position x.step.there x.step.placed in
+      let within = get_within history x.position step.0 step.1 in
+      let m : ℕ = suc x.position - first in
+      let all : first + m ≡ suc x.position = omega (arith, low) in
+      let same : file_of (state_of (take (suc x.position) history)) g.at g.id ≡ file_of (state_of (take first history)) g.at g.id
+      = subst (λ (k : ℕ). file_of (state_of (take k history)) g.at g.id ≡ file_of (state_of (take first history)) g.at g.id) all
+      (quiet_stays history g.at g.id first m (omega (arith, all, within)) (λ p own lower higher found. leaves p own lower (omega (arith, all, high, higher)) found)) in
+      let first_is : x.first ≡ w.record_of = same_some x.first w.record_of (ap (λ (l : List Fields). slice_get l 0) (sym x.stood ∙ ap (λ (f : File). f.records) same ∙ w.alone)) in
+      whole_never calls g.at g.id b.file b.listed e b.other history legal stands whole size first (suc last) w (ap file_record_of (sym first_is) ∙ x.reads_as) leaves
+      (own_between c i calls g sends history legal stands first last is_first is_last leave 0 b.listed (sent.opened b.listed b.own))
+
+  -- what it found and listed
+  read_other : HasReadOther c i calls g.at g.id e
+  read_other history legal stands =
+      let x = its_record history legal stands in
+      let d = b.other.differ history legal stands in
+      let s = stands.same b.listed b.other.call d.0 b.other.there d.1 in
+      record {
+        found = record { opened = x.position; found_so = found_own history x; finds = x.finds; first = x.first; more = x.more; stood = x.stood };
+        file = b.file;
+        reads_as = x.reads_as;
+        count = b.other.count;
+        counted = b.other.counted;
+        fetched = d.0;
+        listed_so = record { done = 0; place = b.listed; sent = sent.opened b.listed b.own; call = b.other.call; there = b.other.there; placed = d.1 };
+        lists = record { step = s.0; there = s.1; asks = ap asked s.2 ∙ b.other.asks };
+        differ = d.2;
+      }
+
+-- which record or chunks were broken, in a history
+found_broken : (c : Course) (i n : ℕ) (calls : List Call) (wire : ℤ) (g : GetTask) (q : Places) → AllSent c i q n → (e : Error) (history : List Step) → IsLegal history → Stands calls history → Broke (sent_at q.now calls wire) history g e ⊎ Blamed calls wire q g e → FindsBroken c i calls history g.at g.id e
+found_broken c i n calls wire g q sent e history legal stands (inl (record_broke opened own finds first more stood breaks)) =
+    no_record (record { opened = opened; found_so = its_own c i n calls wire q.now sent.now opened own; finds = finds; first = first; more = more; stood = stood }) breaks
+found_broken c i n calls wire g q sent e history legal stands (inl (count_broke opened own finds first more stood f reads breaks)) =
+    not_counted (record { opened = opened; found_so = its_own c i n calls wire q.now sent.now opened own; finds = finds; first = first; more = more; stood = stood }) f reads breaks
+found_broken c i n calls wire g q sent e history legal stands (inr b) = other_chunks (read_other c i n calls wire g q sent e b history legal stands)
+
+-- ---- all of a get
+
 stage_filed : (awaited : Awaited) (c : Course) (i n : ℕ) (calls : List Call) (wire : ℤ) (g : GetTask) (s : GetStage) (bytes : List ℕ) (done : ℕ) (at : Option ℕ) (q : Places) → GetKnowsAt awaited calls g s bytes at → GetTells awaited calls wire q g s done at → AllSent c i q n → SendsOnly (IsGetCommand g) c i calls
     → GetGave c i calls g bytes (get_end s)
 stage_filed awaited c i n calls wire g gets.Unsent bytes done at q k t sent sends = (nothing_front c i calls g bytes k.0, inl k.0)
@@ -240,7 +314,10 @@ stage_filed awaited c i n calls wire g (gets.Ended (ended.Gave x)) bytes done at
           sym (all ∙ append-nil (bytes ++ []) ∙ append-nil bytes),
       record { download = d; over = k.3; none_ahead = ahead; reads = λ history legal stands. download_reads awaited calls g.at g.id d bytes k.1 k.2 unspoiled history legal stands },
     )
-stage_filed awaited c i n calls wire g (gets.Ended (ended.Failed e)) bytes done at q k t sent sends = tt
+stage_filed awaited c i n calls wire g (gets.Ended (ended.Failed e)) bytes done at q k t sent sends = (
+  λ blames. let b = blamed calls wire q g done e t.0 blames in (never_whole c i n calls wire g q sent e b sends, read_other c i n calls wire g q sent e b),
+  λ says named history legal stands. found_broken c i n calls wire g q sent e history legal stands (broke calls wire q g done e t.0 says named history legal stands),
+)
 
 -- What a get knows and tells at the end of a run says whose bytes it gave.
 pub get_filed : (awaited : Awaited) (c : Course) (i n : ℕ) (calls : List Call) (wire : ℤ) (job : GetPlayer) (o : Owner) (at : Option ℕ) (q : Places) → GetPlays awaited calls job o at → GetTells awaited calls wire q (sought job.what) job.stage job.done at → AllSent c i q n → SendsOnly (IsGetCommand (sought job.what)) c i calls

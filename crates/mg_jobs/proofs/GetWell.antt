@@ -1,6 +1,6 @@
 -- How a get of a whole file ends where its server holds nothing back.
-use Rattle.std.proofs.Common.{◌≡◌, ◌≢◌, ◌⊎◌, ◌<◌, ◌≤◌, ◌+◌, ◌-◌, ◌++◌, ℕ, suc, ℤ, Bool, true, false, List, [], ◌∷◌, length, take, filter, Option, Some, None, Result, Ok, Err, option_map, refl, sym, ap, ◌∙◌, subst, inl, inr, arith, length-append, lt-ltb}
-use Rattle.std.specs.Prelude.{◌&&◌, ◌^◌, codes, if◌then◌else◌, option_and_then, slice_get, unwrap_or}
+use Rattle.std.proofs.Common.{◌≡◌, ◌≢◌, ◌⊎◌, ◌<◌, ◌≤◌, ◌+◌, ◌-◌, ◌++◌, ℕ, suc, ℤ, Bool, true, false, List, [], ◌∷◌, length, take, Option, Some, None, Result, Ok, Err, option_map, refl, sym, ap, ◌∙◌, subst, inl, inr, arith, length-append, lt-ltb}
+use Rattle.std.specs.Prelude.{◌^◌, if◌then◌else◌, option_and_then, slice_get, unwrap_or}
 use Rattle.std.proofs.lemmas.Bool.{ne_eqb}
 use Rattle.mg_bson.specs.Find.{as_document}
 use Rattle.mg_bson.specs.Raw.{fields}
@@ -9,8 +9,7 @@ use Rattle.mg_bson.specs.Tree.{Fields, Items, Tree, item, no_fields, no_items}
 use Rattle.mg_link.specs.Calls.{HeardAt, HeardBy, Past, RequestFails, out_of_memory, was_broken, was_lost, was_refused}
 use Rattle.mg_link.specs.Commands.{Batch, as_database, asked, asks_more, asks_query, batch_of, documents_in}
 use Rattle.mg_link.specs.Exec.{FailsAs, FailsByReply, IsSuccess}
-use Rattle.mg_link.specs.Files.{Bucket, File, LeavesFile, chunked, chunks_space, file_of, files_space, has_value}
-use Rattle.mg_link.specs.Filter.{Condition, matches, meets}
+use Rattle.mg_link.specs.Files.{File, LeavesFile, chunked, chunks_space, file_of, files_space}
 use Rattle.mg_link.specs.History.{Step, state_of}
 use Rattle.mg_link.specs.Link.{Awaited}
 use Rattle.mg_link.specs.Log.{Call, Sight, fault, reply}
@@ -18,7 +17,7 @@ use Rattle.mg_link.specs.Query.{Query, result}
 use Rattle.mg_link.specs.Reply.{verdict_of}
 use Rattle.mg_link.specs.State.{State}
 use Rattle.mg_link.specs.Session.{Session}
-use Rattle.mg_link.specs.Step.{Made, documents_of, grown}
+use Rattle.mg_link.specs.Step.{Made, grown}
 use Rattle.mg_link.specs.declared.error.Error.{Error}
 use Rattle.mg_link.specs.declared.error.ErrorKind.TheVariants as kind
 use Rattle.mg_link.specs.declared.error.Malformed.{Malformed}
@@ -55,13 +54,15 @@ use Rattle.mg_players.specs.Headline.{GetGave}
 use Rattle.mg_jobs.specs.Own.{IsHeard, IsOwnCursor}
 use Rattle.mg_players.specs.Progress.{GetPlayed}
 use Rattle.mg_players.specs.Sends.{SendsOnly}
-use Rattle.mg_players.specs.Spares as stops
-use Rattle.mg_players.specs.Spares.{AreAmong, IsTold, ReadStops, SparesWhole}
+use Rattle.mg_players.specs.Reading as stops
+use Rattle.mg_players.specs.Reading.{AreAmong, IsTold, ListsOther, ReadStops}
 use Rattle.mg_script.specs.declared.outcome.Ended.{Ended}
 use Rattle.mg_script.specs.declared.outcome.Ended.TheVariants as ended
 use Rattle.mg_players.proofs.Batches.{read_as, tells_not}
 use Rattle.mg_players.proofs.Creating.{creates}
 use Rattle.mg_jobs.proofs.Filed.{all_leave, own_between}
+use Rattle.mg_players.proofs.GetBlamed.{record_result}
+use Rattle.mg_players.proofs.GetDiffering.{whole_never}
 use Rattle.mg_players.proofs.GetJudged.{WholeSays, whole_counts, whole_says}
 use Rattle.mg_players.proofs.GetListing.{list_asks, plain_bucket, told_named}
 use Rattle.mg_players.proofs.GetSteps.{OpensBatch, TookStep, more_gives, prompt_at, query_opens, query_prompt, took}
@@ -81,23 +82,7 @@ fails_not bytes wire e success fails = fails_as (doc bytes) wire e success fails
 
 -- ---- the record
 
-and_true : (t : Bool) → (t && true) ≡ t
-and_true true = refl
-and_true false = refl
-
-those_same : (c : Condition) (ds : List Fields) → filter (matches (c ∷ [])) ds ≡ filter (meets c) ds
-those_same c [] = refl
-those_same c (d ∷ ds) =
-    ap (λ (t : Bool). if t then d ∷ filter (matches (c ∷ [])) ds else filter (matches (c ∷ [])) ds) (and_true (meets c d))
-    ∙ ap (λ (l : List Fields). if meets c d then d ∷ l else l) (those_same c ds)
-
-record_result : (s : State) (at : Bucket) (id : Tree) (ds : List Fields) → result s (record_query (files_space at) id) ≡ Some ds → take 1 (file_of s at id).records ≡ ds
-unfolding result file_of
-record_result s at id ds is =
-    let c = has_value (codes "_id") id in
-    ap (take 1) (sym (those_same c (documents_of s (files_space at)))) ∙ same_some (take 1 (filter (matches (c ∷ [])) (documents_of s (files_space at)))) ds is
-
-grown_reads : (s : State) (made : Made) (q : Query) → result (grown s made) q ≡ result s q
+pub grown_reads : (s : State) (made : Made) (q : Query) → result (grown s made) q ≡ result s q
 unfolding result grown
 grown_reads s made q = refl
 
@@ -347,14 +332,14 @@ module _ (c : Course) (i : ℕ) (begun calls : List Call) (wire : ℤ) (begun_is
           let b = more_gives t.step (lawful t.step (at_once places sent (get_more at session) bytes h)) (subst IsSuccess t.reply_is success) at.id at.space (more_asks at told session t.step.command t.command_is) in
           tells_not bytes b.batch e (ap (λ (x : List ℕ). batch_of (fields x)) t.reply_is ∙ b.there) breaks
 
-      stops_well : (f : FileRecord) (listed : ℕ) (e : Error) → s.file ≡ f → SentIn c i 0 listed → ReadStops seen (SparesWhole calls g.at g.id f listed) e → IsExcusedGet (IsHeard c i calls) g e
+      stops_well : (f : FileRecord) (listed : ℕ) (e : Error) → s.file ≡ f → SentIn c i 0 listed → ReadStops seen (ListsOther calls g.at f listed e) e → IsExcusedGet (IsHeard c i calls) g e
       stops_well f listed e same own (stops.no_memory room) = inl room
       stops_well f listed e same own (stops.not_built at told cannot) = cannot_well at told e cannot
       stops_well f listed e same own (stops.no_batch at told fails) =
           inl (request_room places sent (get_more at fails.session) false TellsNoCursor e (λ bytes is. ap creates (more_asks at told fails.session bytes is)) (λ bytes h success breaks. more_tells at told fails.session bytes h success e breaks) fails.fails)
-      stops_well f listed e same own (stops.too_many never) = absurd (never well.history well.legal well.stands well.own (among places sent) well.prompt)
-      stops_well f listed e same own (stops.differs spared) =
-          absurd (spared.never well.history well.legal well.stands bytes s.size s.first (suc s.last) s.whole (s.read ∙ ap Ok same) leaves
+      stops_well f listed e same own (stops.too_many never is) = absurd (never well.history well.legal well.stands well.own (among places sent) well.prompt)
+      stops_well f listed e same own (stops.differs other) =
+          absurd (whole_never calls g.at g.id f listed e other well.history well.legal well.stands bytes s.size s.first (suc s.last) s.whole (s.read ∙ ap Ok same) leaves
           (own_between c i calls g sends well.history well.legal well.stands s.first s.last s.is_first s.is_last s.alone 0 listed own))
 
     -- ---- all of it

@@ -44,6 +44,16 @@ pub mod FollowFine
 pub mod CallParts
 pub mod FollowTaken
 pub mod RunKillers
+pub mod QueryFits
+pub mod QueryTaken
+pub mod OwnCursors
+pub mod GetTaken
+pub mod Whose
+pub mod Granted
+pub mod Makers
+pub mod IndexesMade
+pub mod PutReplies
+pub mod PutTaken
 pub mod RunTaken
 pub mod SaidTwice
 pub mod Polling

@@ -66,17 +66,17 @@ below_others (x ∷ xs) ys at p q r (inr first) second = below_others xs ys (suc
 
 -- ---- whose place it is
 
-record IsHere (i n at m p : ℕ) : Type 0 where
-  job : i ≡ n
-  low : at ≤ p
-  high : p < at + m
+pub record IsHere (i n at m p : ℕ) : Type 0 where
+  pub job : i ≡ n
+  pub low : at ≤ p
+  pub high : p < at + m
 
 of_from : (at m p : ℕ) → IsOf (places_from at m) p → (at ≤ p) × (p < at + m)
 of_from at zero p of = absurd of
 of_from at (suc m) p (inl same) = (omega (arith, same), omega (arith, same))
 of_from at (suc m) p (inr of) = let more = of_from (suc at) m p of in let low = more.0 in let high = more.1 in (omega (arith, low), omega (arith, high))
 
-of_cond : (i n at m p : ℕ) → IsOf (cond (nat_eq i n) (places_from at m) []) p → IsHere i n at m p
+pub of_cond : (i n at m p : ℕ) → IsOf (cond (nat_eq i n) (places_from at m) []) p → IsHere i n at m p
 of_cond i n at m p of =
     elim (cases_Bool (nat_eq i n)) [
       | inl is ↦ (let within = of_from at m p (subst (λ (b : Bool). IsOf (cond b (places_from at m) []) p) is of) in record { job = eqb-true i n is; low = within.0; high = within.1 })

@@ -10,6 +10,7 @@ use Rattle.mg_link.proofs.Owners.{same_some}
 use Rattle.mg_players.specs.Causes.{AllPollOwn, IsPolledIn, in_turn, before_it, PollOwnFrom, PollsOwn, SentIn, SentNoneBehind, course}
 use Rattle.mg_players.specs.Counts.{IsNewest, NewestAt, sent_last, was_held, PolledBy, StartedBy, one_if}
 use Rattle.mg_players.specs.Drawing.{HaveDrawn, first_id}
+use Rattle.mg_players.specs.Puts.{Supply}
 use Rattle.mg_players.specs.Progress.{AllAt, IsAt, calls_of, pends_last, turns_done}
 use Rattle.mg_players.specs.Telling.{AllTell, JobTold}
 use Rattle.mg_script.specs.Plan.{Task}
@@ -24,19 +25,19 @@ use Rattle.mg_jobs.proofs.Waiting.{job_own, job_pended}
 -- ---- one turn
 
 -- the newest call of a turn is the newest one that its job sent
-polled_in : (ids : ℕ → List ℕ) (first : ℕ) (old : Awaited) (mid new : List Call) (wire : ℤ) (calls : List Call) (order : List ℕ) (notes : List Turned) (j : ℕ) (p : Player) (at : Option ℕ) (asks : ℕ) (note : Turned) (place : ℕ) → JobTold ids first old mid wire (course calls order notes) j p at
+polled_in : (supply : Supply) (first : ℕ) (old : Awaited) (mid new : List Call) (wire : ℤ) (calls : List Call) (order : List ℕ) (notes : List Turned) (j : ℕ) (p : Player) (at : Option ℕ) (asks : ℕ) (note : Turned) (place : ℕ) → JobTold supply first old mid wire (course calls order notes) j p at
     → IsAt asks p (turns_done j order notes) (pends_last j order notes) → ((n : ℕ) → job_ticket p ≡ Some n → old n ≡ Some place → SentNoneBehind (course calls order notes) j place)
     → length mid ≡ length calls + sum_by (λ (t : Turned). t.started) notes → length new ≡ length mid + note.started → NewestAt (job_ticket p) old mid new place → IsPolledIn calls order notes j note place
-polled_in ids first old mid new wire calls order notes j p at asks note place told is none count more (sent_last less last) = in_turn (omega (arith, less, more)) (omega (arith, count, more, last))
-polled_in ids first old mid new wire calls order notes j p at asks note place told is none count more (was_held same n holds out) =
-    let own = job_own ids first old mid wire (course calls order notes) j p at n told holds in
+polled_in supply first old mid new wire calls order notes j p at asks note place told is none count more (sent_last less last) = in_turn (omega (arith, less, more)) (omega (arith, count, more, last))
+polled_in supply first old mid new wire calls order notes j p at asks note place told is none count more (was_held same n holds out) =
+    let own = job_own supply first old mid wire (course calls order notes) j p at n told holds in
     before_it (omega (arith, same, more)) (job_pended asks p (turns_done j order notes) (pends_last j order notes) n is holds)
     (record { done = own.done; sent = subst (λ m. SentIn (course calls order notes) j own.done m) (same_some own.place place (sym own.at ∙ out)) own.sent; newest = none n holds out })
 
 -- The call that was polled is the newest one that the turn's job sent.
-pub polls_turn : (ids given : ℕ → List ℕ) (old : Awaited) (log log' : LogTold) (wire : ℤ) (ts : List Task) (order : List ℕ) (notes : List Turned) (players : List Player) (j : ℕ) (p : Player) (note : Turned) (polls polls' : Polls) (begun : LogTold) → slice_get players j ≡ Some p → StartedBy note.started log log'
-    → AllAt ts order notes players → HaveDrawn ids given ts order players → AllTell ids old begun log wire ts order notes players → PolledBy (one_if note.pended) (IsNewest (job_ticket p) old log log') polls polls' → PollsOwn begun order notes j note polls polls'
-polls_turn ids given old log log' wire ts order notes players j p note polls polls' begun at started all drawn tell polled calls told =
+pub polls_turn : (supply : Supply) (given : ℕ → List ℕ) (old : Awaited) (log log' : LogTold) (wire : ℤ) (ts : List Task) (order : List ℕ) (notes : List Turned) (players : List Player) (j : ℕ) (p : Player) (note : Turned) (polls polls' : Polls) (begun : LogTold) → slice_get players j ≡ Some p → StartedBy note.started log log'
+    → AllAt ts order notes players → HaveDrawn supply.ids given ts order players → AllTell supply old begun log wire ts order notes players → PolledBy (one_if note.pended) (IsNewest (job_ticket p) old log log') polls polls' → PollsOwn begun order notes j note polls polls'
+polls_turn supply given old log log' wire ts order notes players j p note polls polls' begun at started all drawn tell polled calls told =
     let run = tell calls told in
     let t = get_length ts players drawn.jobs j p at in
     let count = run.3.count in
@@ -45,7 +46,7 @@ polls_turn ids given old log log' wire ts order notes players j p note polls pol
     (λ place own.
     let it = own run.0 run.1 in
     let same : it.0 ≡ s.0 = same_some it.0 s.0 (sym it.1 ∙ s.1) in
-    polled_in ids (first_id ts order j) old run.0 s.0 wire calls order notes j p (run.2.places j) (calls_of t.0) note place (run.3.each j t.0 p t.1 at) (all j t.0 p t.1 at) (λ n holds out. run.3.newest j p n place at holds out) count s.2
+    polled_in supply (first_id ts order j) old run.0 s.0 wire calls order notes j p (run.2.places j) (calls_of t.0) note place (run.3.each j t.0 p t.1 at) (all j t.0 p t.1 at) (λ n holds out. run.3.newest j p n place at holds out) count s.2
     (subst (λ (c : List Call). NewestAt (job_ticket p) old run.0 c place) same it.2))
     polled
 

@@ -1,11 +1,11 @@
 -- What a server that holds nothing back tells a put: a request of it fails for want of memory alone.
-use Rattle.std.proofs.Common.{◌≡◌, ◌≢◌, ℕ, ℤ, pos, Bool, true, false, List, [], ◌∷◌, length, take, Contains, Option, Some, None, option_map, Ok, refl, sym, ap, ◌∙◌, subst, inl, inr}
+use Rattle.std.proofs.Common.{◌≡◌, ◌≢◌, ◌<◌, ℕ, ℤ, pos, Bool, true, false, List, [], ◌∷◌, length, take, Contains, Option, Some, None, option_map, Ok, refl, sym, ap, ◌∙◌, subst, inl, inr}
 use Rattle.std.specs.Prelude.{codes, option_and_then, slice_get, unwrap_or, if◌then◌else◌}
 use Rattle.mg_bson.specs.Find.{get}
 use Rattle.mg_bson.specs.Raw.{fields}
 use Rattle.mg_bson.specs.Reading.{doc}
-use Rattle.mg_bson.specs.Tree.{Fields, Tree, no_fields}
-use Rattle.mg_link.specs.Calls.{HeardBy, Past, RequestFails, out_of_memory, was_broken, was_lost, was_refused}
+use Rattle.mg_bson.specs.Tree.{Fields, no_fields}
+use Rattle.mg_link.specs.Calls.{Grows, HeardBy, HeardLast, IsOwn, Past, RequestFails, out_of_memory, was_broken, was_lost, was_refused}
 use Rattle.mg_link.specs.Commands.{Asked, Batch, Failure, Told, as_integer, asked, asks_create, asks_delete, asks_indexes, asks_insert, asks_other, asks_query, batch_of, deleted, deleted_by, failures_at, garbled, keeps_grammar, opened_by, time_in, told_by}
 use Rattle.mg_link.specs.Errors.{command_code}
 use Rattle.mg_link.specs.Exec.{FailsAs, FailsByReply, IsSuccess}
@@ -18,6 +18,7 @@ use Rattle.mg_link.specs.Namespace.{Space}
 use Rattle.mg_link.specs.Prompt.{AnswersAtOnce, MeetsConcern}
 use Rattle.mg_link.specs.Query.{Query}
 use Rattle.mg_link.specs.Reply.{Refusal, code_of, refusal_of, verdict_of}
+use Rattle.mg_link.specs.Session.{Session}
 use Rattle.mg_link.specs.State.{Index, State}
 use Rattle.mg_link.specs.Step.{Made, MayTell, documents_of, grown}
 use Rattle.mg_link.specs.Write.{chosen}
@@ -26,13 +27,14 @@ use Rattle.mg_link.specs.declared.error.ErrorKind.{ErrorKind}
 use Rattle.mg_link.specs.declared.error.ErrorKind.TheVariants as kind
 use Rattle.mg_link.specs.declared.reply.Verdict.{Verdict}
 use Rattle.mg_link.specs.declared.reply.Verdict.TheVariants as verdict
-use Rattle.mg_link.proofs.Pasts.{heard_by}
+use Rattle.mg_link.proofs.Pasts.{heard_at_grows, heard_by, heard_grows}
 use Rattle.mg_options.specs.Fields.{fields_in}
 use Rattle.mg_ops.specs.Naming.{IsNamed}
 use Rattle.mg_ops.specs.Writes.{WriteFails, failures_of}
 use Rattle.mg_ops.proofs.Asking.{asks_to_insert_plainly}
 use Rattle.mg_ops.proofs.AskingMore.{asks_for_indexes, asks_to_create, asks_to_delete, asks_to_index}
 use Rattle.mg_cursor.specs.Causes.{TellsNoCursor}
+use Rattle.mg_cursor.specs.Client.{ClientCursor, get_more}
 use Rattle.mg_gridfs.specs.Buckets.{ClientBucket}
 use Rattle.mg_gridfs.specs.Causes.{ListsFailure, ListsFirst, ListsFor}
 use Rattle.mg_gridfs.specs.Checks.{namespace_exists}
@@ -42,6 +44,7 @@ use Rattle.mg_gridfs.specs.Indexes.{keys_of, space_in}
 use Rattle.mg_gridfs.specs.declared.indexes.Place.{Place}
 use Rattle.mg_gridfs.proofs.Meaning.{IsReading, any_reads, has_name, index_named, named_in}
 use Rattle.mg_jobs.specs.Completing.{AreFresh, SendFresh}
+use Rattle.mg_players.specs.PutFailures.{HeardCreation, HoldsBehind, IsOfList}
 use Rattle.mg_players.specs.Puts.{PutTask, put_bucket}
 use Rattle.mg_players.proofs.Batches.{tells_not}
 use Rattle.mg_players.proofs.Creating.{creates}
@@ -58,6 +61,18 @@ pub record OwnStep (own : List ℕ) (history : List Step) (command : Fields) (by
   pub before_is : state_of (take position history) ≡ at_once.before
   pub command_is : fields step.command ≡ command
   pub reply_is : bytes ≡ step.reply
+
+-- Why such a step is known to be answered so: its reply is a success; or the put sends such a command, a list of indexes behind the creation of the collection.
+pub data IsKnown (past : Past) (t : PutTask) (place : ℕ) (command : Fields) (bytes : List ℕ) : Type 0 where
+  succeeded : IsSuccess bytes → IsKnown past t place command bytes
+  a_find : command ≡ fields_in (any_lines (put_bucket t)) → IsKnown past t place command bytes
+  a_creation : (at : Place) → command ≡ fields_in (creation_lines (put_bucket t) at) → IsKnown past t place command bytes
+  a_listing : (at : Place) (created : HeardCreation past (put_bucket t) at) → created.place < place → command ≡ fields_in (listing_lines (put_bucket t) at) → IsKnown past t place command bytes
+  a_getMore : (c : ClientCursor) → IsOfList past (put_bucket t) c → (session : Option Session) → command ≡ get_more c session → IsKnown past t place command bytes
+  an_index : (at : Place) → command ≡ fields_in (index_lines (put_bucket t) at) → IsKnown past t place command bytes
+  of_chunks : (documents : List Fields) → command ≡ fields_in (chunks_lines (put_bucket t) documents) → IsKnown past t place command bytes
+  of_record : (document : Fields) → command ≡ fields_in (record_lines (put_bucket t) document) → IsKnown past t place command bytes
+  a_removal : command ≡ fields_in (deletion_lines (put_bucket t) t.id) → IsKnown past t place command bytes
 
 -- ---- successes
 
@@ -188,38 +203,53 @@ module _ (step : Step) (p : IsPrompted step) (space : Space) (conditions : List 
 
 -- ---- requests
 
-module _ (past : Past) (own : List ℕ) (history : List Step) (lost : (command : Fields) → HeardBy past command fault → ⊥) (taken : (command : Fields) (bytes : List ℕ) → HeardBy past command (reply bytes) → OwnStep own history command bytes) where
-  pub request_well : (command : Fields) (retries : Bool) (Broken : List ℕ → Error → Type 0) (e : Error) → ((bytes : List ℕ) → fields bytes ≡ command → creates (asked bytes) ≡ false) → ((bytes : List ℕ) → OwnStep own history command bytes → IsSuccess bytes → Broken bytes e → ⊥) → RequestFails past command retries Broken e → e.kind ≡ kind.OutOfMemory
-  request_well command retries Broken e not whole (out_of_memory room) = room
-  request_well command retries Broken e not whole (was_lost is heard) = absurd (lost command (heard_by past command retries fault heard))
-  request_well command retries Broken e not whole (was_refused bytes heard fails) =
-      let s = taken command bytes (heard_by past command retries (reply bytes) heard) in
+module _ (past : Past) (own : List ℕ) (history : List Step) (t : PutTask) (lost : (command : Fields) → HeardBy past command fault → ⊥) (taken : (command : Fields) (bytes : List ℕ) (h : HeardBy past command (reply bytes)) → IsKnown past t h.place command bytes → OwnStep own history command bytes) where
+  pub request_well : (command : Fields) (retries : Bool) (Broken : List ℕ → Error → Type 0) (e : Error) → ((place : ℕ) (bytes : List ℕ) → IsKnown past t place command bytes) → ((bytes : List ℕ) → fields bytes ≡ command → creates (asked bytes) ≡ false)
+      → ((bytes : List ℕ) → OwnStep own history command bytes → IsSuccess bytes → Broken bytes e → ⊥) → RequestFails past command retries Broken e → e.kind ≡ kind.OutOfMemory
+  request_well command retries Broken e known not whole (out_of_memory room) = room
+  request_well command retries Broken e known not whole (was_lost is heard) = absurd (lost command (heard_by past command retries fault heard))
+  request_well command retries Broken e known not whole (was_refused bytes heard fails) =
+      let h = heard_by past command retries (reply bytes) heard in
+      let s = taken command bytes h (known h.place bytes) in
       absurd (fails_not bytes past.wire e (subst IsSuccess (sym s.reply_is) (prompt_success s.step s.at_once (not s.step.command s.command_is))) fails)
-  request_well command retries Broken e not whole (was_broken bytes heard success broken) = absurd (whole bytes (taken command bytes (heard_by past command retries (reply bytes) heard)) success broken)
+  request_well command retries Broken e known not whole (was_broken bytes heard success broken) = absurd (whole bytes (taken command bytes (heard_by past command retries (reply bytes) heard) (succeeded success)) success broken)
 
-  pub lists_as : (t : PutTask) → IsNamed (put_bucket t).files → IsNamed (put_bucket t).chunks → (at : Place) (bytes : List ℕ) → fields bytes ≡ fields_in (listing_lines (put_bucket t) at) → asked bytes ≡ asks_query (indexes_query (space_in (put_bucket t) at))
-  lists_as t files chunks at bytes is = asks_for_indexes bytes (space_in (put_bucket t) at) None (named_in (put_bucket t) at files chunks) is
+  abbrev pub B : ClientBucket
+  B = put_bucket t
 
-  module _ (t : PutTask) (files : IsNamed (put_bucket t).files) (chunks : IsNamed (put_bucket t).chunks) (e : Error) where
-    abbrev B : ClientBucket
-    B = put_bucket t
+  pub lists_as : IsNamed B.files → IsNamed B.chunks → (at : Place) (bytes : List ℕ) → fields bytes ≡ fields_in (listing_lines B at) → asked bytes ≡ asks_query (indexes_query (space_in B at))
+  lists_as files chunks at bytes is = asks_for_indexes bytes (space_in B at) None (named_in B at files chunks) is
 
+  module _ (files : IsNamed B.files) (chunks : IsNamed B.chunks) (e : Error) where
     pub find_well : RequestFails past (fields_in (any_lines B)) true TellsNoCursor e → e.kind ≡ kind.OutOfMemory
     find_well fails =
-        request_well (fields_in (any_lines B)) true TellsNoCursor e (λ bytes is. reading_creates (asked bytes) (any_reads B bytes is))
+        request_well (fields_in (any_lines B)) true TellsNoCursor e (λ place bytes. a_find refl) (λ bytes is. reading_creates (asked bytes) (any_reads B bytes is))
         (λ bytes s success breaks. reading_whole s.step (lawful s.step s.at_once) (subst IsSuccess s.reply_is success) (any_reads B s.step.command s.command_is) e (subst (λ (b : List ℕ). TellsNoCursor b e) s.reply_is breaks)) fails
 
-    pub listing_well : (at : Place) → RequestFails past (fields_in (listing_lines B at)) true TellsNoCursor e → e.kind ≡ kind.OutOfMemory
-    listing_well at fails =
-        request_well (fields_in (listing_lines B at)) true TellsNoCursor e (λ bytes is. ap creates (lists_as t files chunks at bytes is))
-        (λ bytes s success breaks. reading_whole s.step (lawful s.step s.at_once) (subst IsSuccess s.reply_is success) (inl (indexes_query (space_in B at), lists_as t files chunks at s.step.command s.command_is)) e (subst (λ (b : List ℕ). TellsNoCursor b e) s.reply_is breaks)) fails
+    -- behind the creation of the collection
+    module _ (at : Place) (created : HeardCreation past B at) (later : Past) (grows : Grows later past) (behind : (p : ℕ) → IsOwn later p → created.place < p) where
+      abbrev heard_there : (bytes : List ℕ) → HeardLast later (fields_in (listing_lines B at)) true (reply bytes) → HeardBy past (fields_in (listing_lines B at)) (reply bytes)
+      heard_there bytes h = record { place = h.place; heard = heard_at_grows later past grows h.place (fields_in (listing_lines B at)) (reply bytes) (λ bad. cc) h.heard }
+
+      listed_well : RequestFails later (fields_in (listing_lines B at)) true TellsNoCursor e → e.kind ≡ kind.OutOfMemory
+      listed_well (out_of_memory room) = room
+      listed_well (was_lost is heard) = absurd (lost (fields_in (listing_lines B at)) (heard_grows later past grows (fields_in (listing_lines B at)) fault (λ bad. cc) (heard_by later (fields_in (listing_lines B at)) true fault heard)))
+      listed_well (was_refused bytes heard fails) =
+          let s = taken (fields_in (listing_lines B at)) bytes (heard_there bytes heard) (a_listing at created (behind heard.place heard.heard.own) refl) in
+          absurd (fails_not bytes later.wire e (subst IsSuccess (sym s.reply_is) (prompt_success s.step s.at_once (ap creates (lists_as files chunks at s.step.command s.command_is)))) fails)
+      listed_well (was_broken bytes heard success breaks) =
+          let s = taken (fields_in (listing_lines B at)) bytes (heard_there bytes heard) (succeeded success) in
+          absurd (reading_whole s.step (lawful s.step s.at_once) (subst IsSuccess s.reply_is success) (inl (indexes_query (space_in B at), lists_as files chunks at s.step.command s.command_is)) e (subst (λ (b : List ℕ). TellsNoCursor b e) s.reply_is breaks))
+
+    pub listing_well : (at : Place) (created : HeardCreation past B at) → HoldsBehind created.place past (λ p. RequestFails p (fields_in (listing_lines B at)) true TellsNoCursor e) → e.kind ≡ kind.OutOfMemory
+    listing_well at created b = listed_well at created b.later b.grows b.behind b.says
 
     index_as : (at : Place) (bytes : List ℕ) → fields bytes ≡ fields_in (index_lines B at) → asked bytes ≡ asks_indexes (space_in B at) (record { name = index_named at; key = keys_of at } ∷ [])
     index_as at bytes is = asks_to_index bytes (space_in B at) (keys_of at) (index_named at) None None (named_in B at files chunks) (has_name at) is
 
     pub index_well : (at : Place) → RequestFails past (fields_in (index_lines B at)) false ListsFailure e → e.kind ≡ kind.OutOfMemory
     index_well at fails =
-        request_well (fields_in (index_lines B at)) false ListsFailure e (λ bytes is. ap creates (index_as at bytes is))
+        request_well (fields_in (index_lines B at)) false ListsFailure e (λ place bytes. an_index at refl) (λ bytes is. ap creates (index_as at bytes is))
         (λ bytes s success lists. indexed_whole s.step s.at_once e (space_in B at) (record { name = index_named at; key = keys_of at } ∷ []) (index_as at s.step.command s.command_is) (subst (λ (b : List ℕ). ListsFailure b e) s.reply_is lists)) fails
 
     create_as : (at : Place) (bytes : List ℕ) → fields bytes ≡ fields_in (creation_lines B at) → asked bytes ≡ asks_create (space_in B at)
@@ -230,19 +260,19 @@ module _ (past : Past) (own : List ℕ) (history : List Step) (lost : (command :
     creation_well at other (out_of_memory room) = room
     creation_well at other (was_lost is heard) = absurd (lost (fields_in (creation_lines B at)) (heard_by past (fields_in (creation_lines B at)) false fault heard))
     creation_well at other (was_refused bytes heard fails) =
-        let s = taken (fields_in (creation_lines B at)) bytes (heard_by past (fields_in (creation_lines B at)) false (reply bytes) heard) in
+        let s = taken (fields_in (creation_lines B at)) bytes (heard_by past (fields_in (creation_lines B at)) false (reply bytes) heard) (a_creation at refl) in
         there_already s.step s.at_once (space_in B at) (create_as at s.step.command s.command_is) past.wire e other (subst (λ (b : List ℕ). FailsByReply (doc b) past.wire e) s.reply_is fails)
     creation_well at other (was_broken bytes heard success lists) =
-        let s = taken (fields_in (creation_lines B at)) bytes (heard_by past (fields_in (creation_lines B at)) false (reply bytes) heard) in
+        let s = taken (fields_in (creation_lines B at)) bytes (heard_by past (fields_in (creation_lines B at)) false (reply bytes) heard) (succeeded success) in
         absurd (created_whole s.step s.at_once e (space_in B at) (create_as at s.step.command s.command_is) (subst (λ (b : List ℕ). ListsFailure b e) s.reply_is lists))
 
-    delete_as : (id : Tree) (bytes : List ℕ) → fields bytes ≡ fields_in (deletion_lines B id) → asked bytes ≡ asks_delete B.chunks (has_value (codes "files_id") id ∷ []) true
-    delete_as id bytes is = asks_to_delete bytes B.chunks (of_file id) (has_value (codes "files_id") id ∷ []) true None None chunks refl is
+    delete_as : (bytes : List ℕ) → fields bytes ≡ fields_in (deletion_lines B t.id) → asked bytes ≡ asks_delete B.chunks (has_value (codes "files_id") t.id ∷ []) true
+    delete_as bytes is = asks_to_delete bytes B.chunks (of_file t.id) (has_value (codes "files_id") t.id ∷ []) true None None chunks refl is
 
-    pub deletion_well : (id : Tree) → RequestFails past (fields_in (deletion_lines B id)) false ListsFirst e → e.kind ≡ kind.OutOfMemory
-    deletion_well id fails =
-        request_well (fields_in (deletion_lines B id)) false ListsFirst e (λ bytes is. ap creates (delete_as id bytes is))
-        (λ bytes s success lists. deleted_whole s.step s.at_once B.chunks (has_value (codes "files_id") id ∷ []) true (delete_as id s.step.command s.command_is) (subst IsSuccess s.reply_is success) e (subst (λ (b : List ℕ). ListsFirst b e) s.reply_is lists)) fails
+    pub deletion_well : RequestFails past (fields_in (deletion_lines B t.id)) false ListsFirst e → e.kind ≡ kind.OutOfMemory
+    deletion_well fails =
+        request_well (fields_in (deletion_lines B t.id)) false ListsFirst e (λ place bytes. a_removal refl) (λ bytes is. ap creates (delete_as bytes is))
+        (λ bytes s success lists. deleted_whole s.step s.at_once B.chunks (has_value (codes "files_id") t.id ∷ []) true (delete_as s.step.command s.command_is) (subst IsSuccess s.reply_is success) e (subst (λ (b : List ℕ). ListsFirst b e) s.reply_is lists)) fails
 
     -- ---- inserts
 
@@ -257,9 +287,11 @@ module _ (past : Past) (own : List ℕ) (history : List Step) (lost : (command :
       pub chunks_well : (documents : List Fields) → RequestFails past (fields_in (chunks_lines B documents)) false (ListsFor documents) e → e.kind ≡ kind.OutOfMemory
       chunks_well documents fails =
           let asks : (bytes : List ℕ) → fields bytes ≡ fields_in (chunks_lines B documents) → asked bytes ≡ asks_insert B.chunks documents true = λ bytes is. asks_to_insert_plainly bytes B.chunks documents chunks is in
-          request_well (fields_in (chunks_lines B documents)) false (ListsFor documents) e (λ bytes is. ap creates (asks bytes is)) (λ bytes s success lists. inserted_whole B.chunks documents (fields_in (chunks_lines B documents)) asks bytes s lists) fails
+          request_well (fields_in (chunks_lines B documents)) false (ListsFor documents) e (λ place bytes. of_chunks documents refl) (λ bytes is. ap creates (asks bytes is))
+          (λ bytes s success lists. inserted_whole B.chunks documents (fields_in (chunks_lines B documents)) asks bytes s lists) fails
 
       pub record_well : (document : Fields) → RequestFails past (fields_in (record_lines B document)) false (ListsFor (document ∷ [])) e → e.kind ≡ kind.OutOfMemory
       record_well document fails =
           let asks : (bytes : List ℕ) → fields bytes ≡ fields_in (record_lines B document) → asked bytes ≡ asks_insert B.files (document ∷ []) true = λ bytes is. asks_to_insert_plainly bytes B.files (document ∷ []) files is in
-          request_well (fields_in (record_lines B document)) false (ListsFor (document ∷ [])) e (λ bytes is. ap creates (asks bytes is)) (λ bytes s success lists. inserted_whole B.files (document ∷ []) (fields_in (record_lines B document)) asks bytes s lists) fails
+          request_well (fields_in (record_lines B document)) false (ListsFor (document ∷ [])) e (λ place bytes. of_record document refl) (λ bytes is. ap creates (asks bytes is))
+          (λ bytes s success lists. inserted_whole B.files (document ∷ []) (fields_in (record_lines B document)) asks bytes s lists) fails

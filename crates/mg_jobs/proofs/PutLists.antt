@@ -45,14 +45,14 @@ use Rattle.mg_jobs.specs.Own.{IsOwnCursor}
 use Rattle.mg_players.specs.PutFailures.{AreInTurn, IsListBatch, IsListed, IsOfList, StandsBehindNone, brought, first_batch, held_by, held_in, next_batch}
 use Rattle.mg_jobs.specs.PutLimits.{CannotPut, HasFewIndexes, a_getMore}
 use Rattle.mg_players.specs.Puts.{PutTask, put_bucket}
-use Rattle.mg_players.specs.PutSends.{plain_manner}
+use Rattle.mg_players.specs.Gets.{no_manner}
 use Rattle.mg_players.proofs.Batches.{breaks_not, events_are, tells_not}
 use Rattle.mg_players.proofs.Creating.{asked_creates, asking_none}
 use Rattle.mg_jobs.proofs.ListCursors.{AreIndexes, AsksToList, HoldsIndexes, OpenedList, indexes_front, result_indexes, result_length, result_listed, stays_list}
 use Rattle.mg_jobs.proofs.ListShortens.{FewOnly, IsFew, first_few, later_few, more_few, state_behind}
 use Rattle.mg_players.proofs.Prompting.{lawful, may_tell, never_garbled}
 use Rattle.mg_players.proofs.PutChecking.{opened_plainly}
-use Rattle.mg_jobs.proofs.PutHeard.{OwnStep, lists_as, query_brings, request_well, told_as}
+use Rattle.mg_jobs.proofs.PutHeard.{IsKnown, OwnStep, a_getMore, lists_as, query_brings, request_well, succeeded, told_as}
 
 -- ---- cursors that a reply tells
 
@@ -248,27 +248,27 @@ module _ (own : List ℕ) (history : List Step) (legal : IsLegal history) where
 
   -- ---- the cursor of a list
 
-  module _ (past : Past) (heard : List ℕ → Type 0) (lost : (command : Fields) → HeardBy past command fault → ⊥) (taken : (command : Fields) (bytes : List ℕ) → HeardBy past command (reply bytes) → OwnStep own history command bytes) (hears : (command : Fields) (bytes : List ℕ) → HeardBy past command (reply bytes) → heard bytes) (t : PutTask) (files : IsNamed (put_bucket t).files) (chunks : IsNamed (put_bucket t).chunks) where
+  module _ (past : Past) (heard : List ℕ → Type 0) (t : PutTask) (lost : (command : Fields) → HeardBy past command fault → ⊥) (taken : (command : Fields) (bytes : List ℕ) (h : HeardBy past command (reply bytes)) → IsKnown past t h.place command bytes → OwnStep own history command bytes) (hears : (command : Fields) (bytes : List ℕ) → HeardBy past command (reply bytes) → heard bytes) (files : IsNamed (put_bucket t).files) (chunks : IsNamed (put_bucket t).chunks) where
     abbrev B : ClientBucket
     B = put_bucket t
 
     record ReadsWell (c : ClientCursor) : Type 0 where
       named : IsNamed c.space
-      manner_is : c.manner ≡ plain_manner
+      manner_is : c.manner ≡ no_manner
       knows : c.id ≢ pos 0 → OpenedList history c.id
       own_cursor : IsOwnCursor heard c.id c.space
 
     list_holds : (at : Place) (bytes : List ℕ) → HeardBy past (fields_in (listing_lines B at)) (reply bytes) → IsSuccess bytes → HoldsListed history bytes
     list_holds at bytes h success =
-        let s = taken (fields_in (listing_lines B at)) bytes h in
-        first_holds (fields_in (listing_lines B at)) bytes s success (space_in B at) (lists_as past own history lost taken t files chunks at s.step.command s.command_is)
+        let s = taken (fields_in (listing_lines B at)) bytes h (succeeded success) in
+        first_holds (fields_in (listing_lines B at)) bytes s success (space_in B at) (lists_as past own history t lost taken files chunks at s.step.command s.command_is)
 
     more_asks : (c : ClientCursor) (session : Option Session) (command : List ℕ) → IsNamed c.space → fields command ≡ get_more c session → asked command ≡ asks_more c.id c.space
     more_asks c session command named is = asks_for_more command c.id c.space c.manner.size c.manner.wait c.manner.comment session named is
 
     more_holds : (c : ClientCursor) (bytes : List ℕ) → ReadsWell c → HeardMore past c bytes → HoldsListed history bytes
     more_holds c bytes w h =
-        let s = taken (get_more c h.session) bytes h.heard in
+        let s = taken (get_more c h.session) bytes h.heard (succeeded h.success) in
         next_holds (get_more c h.session) bytes s h.success c.id c.space w.knows (more_asks c h.session s.step.command w.named s.command_is)
 
     opened_well : (at : Place) (first : List ℕ) (out : CursorSpecification) → HeardBy past (fields_in (listing_lines B at)) (reply first) → IsSuccess first → OpensWith None None None first out → ReadsWell (new_client out)
@@ -316,7 +316,7 @@ module _ (own : List ℕ) (history : List Step) (legal : IsLegal history) where
 
     -- ---- so its list fails for want of memory, or since a getMore is not built
 
-    ask_by : (m : Manner) (id : ℤ) (at : Space) (e : Error) → m ≡ plain_manner → IsOwnCursor heard id at → HasBadSize m.size e ⊎ CannotBeSent (next_command id at m) e → CannotPut heard t e
+    ask_by : (m : Manner) (id : ℤ) (at : Space) (e : Error) → m ≡ no_manner → IsOwnCursor heard id at → HasBadSize m.size e ⊎ CannotBeSent (next_command id at m) e → CannotPut heard t e
     ask_by m id at e plain own_one (inl bad) = absurd (subst (λ (x : Manner). SizePasses x.size) plain bad.1)
     ask_by m id at e plain own_one (inr cannot) = a_getMore id at own_one (subst (λ (x : Manner). CannotBeSent (next_command id at x) e) plain cannot)
 
@@ -326,7 +326,7 @@ module _ (own : List ℕ) (history : List Step) (legal : IsLegal history) where
     pub more_well : (c : ClientCursor) (e : Error) → IsOfList past B c → MoreFails past c e → e.kind ≡ kind.OutOfMemory
     more_well c e l f =
         let w = list_well c l in
-        request_well past own history lost taken (get_more c f.session) false TellsNoCursor e (λ bytes is. asked_creates bytes (get_more c f.session) is (asking_none c.id c.space c.manner f.session))
+        request_well past own history t lost taken (get_more c f.session) false TellsNoCursor e (λ place bytes. a_getMore c l f.session refl) (λ bytes is. asked_creates bytes (get_more c f.session) is (asking_none c.id c.space c.manner f.session))
         (λ bytes s success breaks.
         let b = more_brings (get_more c f.session) bytes s success c.id c.space (more_asks c f.session s.step.command w.named s.command_is) in
         tells_not bytes b.0 e (subst (λ (bs : List ℕ). batch_of (fields bs) ≡ Some b.0) (sym s.reply_is) b.1) breaks) f.fails
@@ -357,10 +357,10 @@ module _ (own : List ℕ) (history : List Step) (legal : IsLegal history) where
 
     -- ---- and it has not too many
 
-    module _ (rises : (place place' : ℕ) (command command' : Fields) (bytes bytes' : List ℕ) (h : HeardAt past place command (reply bytes)) (h' : HeardAt past place' command' (reply bytes')) → place < place' → (taken command bytes (record { place = place; heard = h })).position < (taken command' bytes' (record { place = place'; heard = h' })).position) (few : HasFewIndexes own history t) where
+    module _ (rises : (place place' : ℕ) (command command' : Fields) (bytes bytes' : List ℕ) (h : HeardAt past place command (reply bytes)) (h' : HeardAt past place' command' (reply bytes')) (k : IsKnown past t place command bytes) (k' : IsKnown past t place' command' bytes') → place < place' → (taken command bytes (record { place = place; heard = h }) k).position < (taken command' bytes' (record { place = place'; heard = h' }) k').position) (few : HasFewIndexes own history t) where
       -- behind the reply at a place
       abbrev Behind : (place q : ℕ) → Type 0
-      Behind place q = (place' : ℕ) (command' : Fields) (bytes' : List ℕ) (h' : HeardAt past place' command' (reply bytes')) → place < place' → q < (taken command' bytes' (record { place = place'; heard = h' })).position
+      Behind place q = (place' : ℕ) (command' : Fields) (bytes' : List ℕ) (h' : HeardAt past place' command' (reply bytes')) (k' : IsKnown past t place' command' bytes') → place < place' → q < (taken command' bytes' (record { place = place'; heard = h' }) k').position
 
       count_turn : (c : ClientCursor) (last : ℕ) (replies : List (ℕ × List ℕ)) (at : ClientCursor) (q n : ℕ) → AreInTurn past c last replies at → ReadsWell c → (c.id ≢ pos 0 → IsFew history (suc q) n c.id) → Behind last q → held_by replies ≤ n
       unfolding turn_more
@@ -368,12 +368,12 @@ module _ (own : List ℕ) (history : List Step) (legal : IsLegal history) where
       count_turn c last (h ∷ more) at q n are w known behind =
           let m = turn_more c last h.0 h.1 more at are in
           let command : Fields = get_more c are.1 in
-          let s = taken command h.1 m.heard in
+          let s = taken command h.1 m.heard (succeeded are.3) in
           let asks = more_asks c are.1 s.step.command w.named s.command_is in
-          let k = next_counts command h.1 s are.3 c.id c.space w.knows asks q n known (behind h.0 command h.1 are.2 are.0) in
+          let k = next_counts command h.1 s are.3 c.id c.space w.knows asks q n known (behind h.0 command h.1 are.2 (succeeded are.3) are.0) in
           let w' = behind_well c h.1 are.4 w m are.5 in
           let same = id_told h.1 are.4 k.batch are.5 k.there in
-          let rest = count_turn (behind_reply are.4 c) h.0 more at s.position k.left are.6 w' (λ held. subst (IsFew history (suc s.position) k.left) same (k.few (λ zero. held (sym same ∙ zero)))) (λ place' command' bytes' h' less. rises h.0 place' command command' h.1 bytes' are.2 h' less) in
+          let rest = count_turn (behind_reply are.4 c) h.0 more at s.position k.left are.6 w' (λ held. subst (IsFew history (suc s.position) k.left) same (k.few (λ zero. held (sym same ∙ zero)))) (λ place' command' bytes' h' k' less. rises h.0 place' command command' h.1 bytes' are.2 h' (succeeded are.3) k' less) in
           let these = held_few h.1 k.batch k.there in
           let sum = k.sum in
           omega (arith, rest, these, sum)
@@ -382,12 +382,12 @@ module _ (own : List ℕ) (history : List Step) (legal : IsLegal history) where
       never_too_many c l many =
           let command : Fields = fields_in (listing_lines B l.at) in
           let h : HeardBy past command (reply l.first) = record { place = l.place; heard = l.heard } in
-          let s = taken command l.first h in
-          let k = first_counts command l.first s l.success (space_in B l.at) (lists_as past own history lost taken t files chunks l.at s.step.command s.command_is) (subst (λ (x : State). length (indexes_of x (space_in B l.at)) < 1048576) s.before_is (few s.position s.step l.at s.is_own s.there)) in
+          let s = taken command l.first h (succeeded l.success) in
+          let k = first_counts command l.first s l.success (space_in B l.at) (lists_as past own history t lost taken files chunks l.at s.step.command s.command_is) (subst (λ (x : State). length (indexes_of x (space_in B l.at)) < 1048576) s.before_is (few s.position s.step l.at s.is_own s.there)) in
           let said : cursors.Cursor = record { id = l.out.info.id; space = space l.out.info.ns; token = l.out.post_batch_resume_token; batch = l.opens.opens.batch } in
           let same = id_told l.first said k.batch l.opens.opens.says k.there in
           let w = opened_well l.at l.first l.out h l.success l.opens in
-          let rest = count_turn (new_client l.out) l.place l.replies (at_rest c) s.position k.left l.behind w (λ held. subst (IsFew history (suc s.position) k.left) same (k.few (λ zero. held (sym same ∙ zero)))) (λ place' command' bytes' h' less. rises l.place place' command command' l.first bytes' l.heard h' less) in
+          let rest = count_turn (new_client l.out) l.place l.replies (at_rest c) s.position k.left l.behind w (λ held. subst (IsFew history (suc s.position) k.left) same (k.few (λ zero. held (sym same ∙ zero)))) (λ place' command' bytes' h' k' less. rises l.place place' command command' l.first bytes' l.heard h' (succeeded l.success) k' less) in
           let these = held_few l.first k.batch k.there in
           let sum = k.sum in
           omega (arith, rest, these, sum, many)

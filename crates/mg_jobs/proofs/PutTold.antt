@@ -8,7 +8,7 @@ use Rattle.mg_players.specs.Causes.{AllSentIn, Course, HasWritten, PutEnds, PutE
 use Rattle.mg_players.specs.Plays.{Places, all_places}
 use Rattle.mg_players.specs.Progress.{PutAt, pends_last}
 use Rattle.mg_players.specs.PutSends.{PutEndsSent}
-use Rattle.mg_players.specs.Puts.{PutTask, put_end}
+use Rattle.mg_players.specs.Puts.{PutTask, Supply, put_end}
 use Rattle.mg_players.specs.Telling.{AllSent, PutSaid, PutTells, put_number}
 use Rattle.mg_players.specs.declared.put.PutStage.{PutStage}
 use Rattle.mg_players.specs.declared.put.PutStage.TheVariants as puts
@@ -25,9 +25,9 @@ all_sent : (q : Places) → q.opened ≡ [] → all_places q ≡ concat q.owns +
 all_sent q none = ap (λ (l : List ℕ). l ++ (concat q.owns ++ q.now)) none
 
 -- one that has ended
-over_told : (awaited : Awaited) (c : Course) (i : ℕ) (calls : List Call) (wire : ℤ) (t : PutTask) (q : Places) (done : ℕ) (end : Ended ℕ) → AllSent c i q (suc done) → q.opened ≡ [] → length q.owns ≡ done → PutEndsBy (sent_at (all_places q) calls wire) (sent_at q.now calls wire) t end
-    → HasWritten t done end → PutSaid calls q (λ commands. PutEndsSent t commands end) → (pends_last i c.order c.notes ≡ false) → PutEnds awaited c i calls wire t end
-over_told awaited c i calls wire t q done end sent none counted by all said quiet =
+over_told : (awaited : Awaited) (c : Course) (i : ℕ) (calls : List Call) (wire : ℤ) (supply : Supply) (t : PutTask) (q : Places) (done : ℕ) (end : Ended ℕ) → AllSent c i q (suc done) → q.opened ≡ [] → length q.owns ≡ done → PutEndsBy (sent_at (all_places q) calls wire) (sent_at q.now calls wire) t end
+    → HasWritten t done end → PutSaid calls q (λ commands. PutEndsSent supply t commands end) → (pends_last i c.order c.notes ≡ false) → PutEnds awaited c i calls wire supply t end
+over_told awaited c i calls wire supply t q done end sent none counted by all said quiet =
     record {
       owns = q.owns;
       sent_each = sent.owns;
@@ -37,11 +37,11 @@ over_told awaited c i calls wire t q done end sent none counted by all said quie
       by = subst (λ (l : List ℕ). PutEndsBy (sent_at l calls wire) (sent_at q.now calls wire) t end) (all_sent q none) by;
       waits = λ pended is. absurd (let bad : true ≡ false = sym pended ∙ quiet in cc);
       written = subst (λ (n : ℕ). HasWritten t n end) (sym counted) all;
-      sends = subst (λ (l : List ℕ). PutEndsSent t (commands_at calls l) end) sent.whole said.sends;
+      sends = subst (λ (l : List ℕ). PutEndsSent supply t (commands_at calls l) end) sent.whole said.sends;
     }
 
-pub put_outcome : (awaited : Awaited) (c : Course) (i : ℕ) (calls : List Call) (wire : ℤ) (t : PutTask) (q : Places) (s : PutStage) (pieces done count k : ℕ) → PutTells awaited calls wire q t done s → AllSent c i q (put_number done s) → PutAt pieces s done count k (pends_last i c.order c.notes) → PutEnds awaited c i calls wire t (put_end s)
-put_outcome awaited c i calls wire t q puts.Undrawn pieces done count k tells sent at =
+pub put_outcome : (awaited : Awaited) (c : Course) (i : ℕ) (calls : List Call) (wire : ℤ) (supply : Supply) (t : PutTask) (q : Places) (s : PutStage) (pieces done count k : ℕ) → PutTells awaited calls wire q supply t done s → AllSent c i q (put_number done s) → PutAt pieces s done count k (pends_last i c.order c.notes) → PutEnds awaited c i calls wire supply t (put_end s)
+put_outcome awaited c i calls wire supply t q puts.Undrawn pieces done count k tells sent at =
     record {
       owns = [];
       sent_each = λ n own there. absurd cc;
@@ -51,10 +51,10 @@ put_outcome awaited c i calls wire t q puts.Undrawn pieces done count k tells se
       by = tt;
       waits = λ pended is. absurd (let bad : true ≡ false = sym pended ∙ at.3 in cc);
       written = tt;
-      sends = (false, none_some t (commands_at calls (places_of c i)) (ap (commands_at calls) (sym sent.whole ∙ only_now q tells.0.0 tells.0.1 ∙ tells.0.2)));
+      sends = (false, none_some supply t (commands_at calls (places_of c i)) (ap (commands_at calls) (sym sent.whole ∙ only_now q tells.0.0 tells.0.1 ∙ tells.0.2)));
     }
-put_outcome awaited c i calls wire t q (puts.Begins begun) pieces done count k tells sent at = absurd at
-put_outcome awaited c i calls wire t q (puts.Goes going) pieces done count k tells sent at =
+put_outcome awaited c i calls wire supply t q (puts.Begins begun) pieces done count k tells sent at = absurd at
+put_outcome awaited c i calls wire supply t q (puts.Goes going) pieces done count k tells sent at =
     record {
       owns = q.owns;
       sent_each = sent.owns;
@@ -65,7 +65,7 @@ put_outcome awaited c i calls wire t q (puts.Goes going) pieces done count k tel
       waits = λ pended is. record { upload = upload_of going.upload; aim_is = tells.0.aim_is; holds = at.3 ∙ pended; underway = tells.0.underway };
       written = tt;
       sends =
-          subst (λ (l : List ℕ). PutEndsSent t (commands_at calls l) ended.Unfinished) sent.whole
-          (doing_some t (commands_at calls (all_places q)) (upload_of going.upload).checked (upload_of going.upload).sent (upload_of going.upload).doing done count at.2 tells.0.said.sends);
+          subst (λ (l : List ℕ). PutEndsSent supply t (commands_at calls l) ended.Unfinished) sent.whole
+          (doing_some supply t (commands_at calls (all_places q)) (upload_of going.upload).checked (upload_of going.upload).sent (upload_of going.upload).doing done count at.2 tells.0.said.sends);
     }
-put_outcome awaited c i calls wire t q (puts.Ended end) pieces done count k tells sent at = over_told awaited c i calls wire t q done end sent tells.0 tells.1 tells.2 tells.3 tells.4 at.1
+put_outcome awaited c i calls wire supply t q (puts.Ended end) pieces done count k tells sent at = over_told awaited c i calls wire supply t q done end sent tells.0 tells.1 tells.2 tells.3 tells.4 at.1

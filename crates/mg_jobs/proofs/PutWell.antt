@@ -23,7 +23,7 @@ use Rattle.mg_jobs.specs.PutLimits as limits
 use Rattle.mg_jobs.specs.PutLimits.{HasFewIndexes, IsExcusedPut, IsValidPut}
 use Rattle.mg_players.specs.Puts.{CannotOpen, PutTask, put_aim, put_bucket}
 use Rattle.mg_players.proofs.PutErrors.{NoLimit, first_limit, never_both}
-use Rattle.mg_jobs.proofs.PutHeard.{OwnStep, chunks_well, creation_well, deletion_well, find_well, index_well, listing_well, record_well}
+use Rattle.mg_jobs.proofs.PutHeard.{IsKnown, OwnStep, chunks_well, creation_well, deletion_well, find_well, index_well, listing_well, record_well}
 use Rattle.mg_jobs.proofs.PutLists as lists
 use Rattle.mg_jobs.proofs.PutLists.{asked_excused, more_well, never_broken, never_empty, never_too_many}
 
@@ -31,9 +31,10 @@ use Rattle.mg_jobs.proofs.PutLists.{asked_excused, more_well, never_broken, neve
 few_chunks : (t : PutTask) → IsValidPut t → HasManyChunks t → ⊥
 few_chunks t valid many = let some = valid.some in let few = valid.few in omega (arith, some, few, many)
 
-module _ (own : List ℕ) (history : List Step) (legal : IsLegal history) (past : Past) (heard : List ℕ → Type 0) (lost : (command : Fields) → HeardBy past command fault → ⊥) (taken : (command : Fields) (bytes : List ℕ) → HeardBy past command (reply bytes) → OwnStep own history command bytes)
-    (hears : (command : Fields) (bytes : List ℕ) → HeardBy past command (reply bytes) → heard bytes) (t : PutTask) (valid : IsValidPut t) (fresh : SendFresh own history)
-    (rises : (place place' : ℕ) (command command' : Fields) (bytes bytes' : List ℕ) (h : HeardAt past place command (reply bytes)) (h' : HeardAt past place' command' (reply bytes')) → place < place' → (taken command bytes (record { place = place; heard = h })).position < (taken command' bytes' (record { place = place'; heard = h' })).position) (few : HasFewIndexes own history t) where
+module _ (own : List ℕ) (history : List Step) (legal : IsLegal history) (past : Past) (heard : List ℕ → Type 0) (t : PutTask) (lost : (command : Fields) → HeardBy past command fault → ⊥)
+    (taken : (command : Fields) (bytes : List ℕ) (h : HeardBy past command (reply bytes)) → IsKnown past t h.place command bytes → OwnStep own history command bytes)
+    (hears : (command : Fields) (bytes : List ℕ) → HeardBy past command (reply bytes) → heard bytes) (valid : IsValidPut t) (fresh : SendFresh own history)
+    (rises : (place place' : ℕ) (command command' : Fields) (bytes bytes' : List ℕ) (h : HeardAt past place command (reply bytes)) (h' : HeardAt past place' command' (reply bytes')) (k : IsKnown past t place command bytes) (k' : IsKnown past t place' command' bytes') → place < place' → (taken command bytes (record { place = place; heard = h }) k).position < (taken command' bytes' (record { place = place'; heard = h' }) k').position) (few : HasFewIndexes own history t) where
   files : IsNamed (put_bucket t).files
   files = valid.named.0
 
@@ -50,21 +51,21 @@ module _ (own : List ℕ) (history : List Step) (legal : IsLegal history) (past 
   check_well : (e : Error) → PutCheckFails past (put_bucket t) e → Excused e
   check_well e (fails.out_of_memory full) = room e full
   check_well e (fails.not_built lines its cannot) = inr (limits.in_check lines its cannot)
-  check_well e (fails.by_find failed) = room e (find_well past own history lost taken t files chunks e failed)
-  check_well e (fails.by_creation at failed other) = room e (creation_well past own history lost taken t files chunks e at other failed)
-  check_well e (fails.by_listing at failed) = room e (listing_well past own history lost taken t files chunks e at failed)
-  check_well e (fails.by_index at failed) = room e (index_well past own history lost taken t files chunks e at failed)
-  check_well e (fails.not_asked c l cannot) = inr (asked_excused own history legal past heard lost taken hears t files chunks c e l cannot)
-  check_well e (fails.by_more c l failed) = room e (more_well own history legal past heard lost taken hears t files chunks c e l failed)
-  check_well e (fails.broken bytes batch breaks) = absurd (never_broken own history legal past heard lost taken hears t files chunks bytes e batch breaks)
-  check_well e (fails.stays_empty c stands held is) = absurd (never_empty own history legal past heard lost taken hears t files chunks c stands held)
-  check_well e (fails.no_index document listed failed) = room e (lists.index_well own history legal past heard lost taken hears t files chunks document e listed failed)
-  check_well e (fails.too_many c l many is) = absurd (never_too_many own history legal past heard lost taken hears t files chunks rises few c l many)
+  check_well e (fails.by_find failed) = room e (find_well past own history t lost taken files chunks e failed)
+  check_well e (fails.by_creation at failed other) = room e (creation_well past own history t lost taken files chunks e at other failed)
+  check_well e (fails.by_listing at created failed) = room e (listing_well past own history t lost taken files chunks e at created failed)
+  check_well e (fails.by_index at failed) = room e (index_well past own history t lost taken files chunks e at failed)
+  check_well e (fails.not_asked c l cannot) = inr (asked_excused own history legal past heard t lost taken hears files chunks c e l cannot)
+  check_well e (fails.by_more c l failed) = room e (more_well own history legal past heard t lost taken hears files chunks c e l failed)
+  check_well e (fails.broken bytes batch breaks) = absurd (never_broken own history legal past heard t lost taken hears files chunks bytes e batch breaks)
+  check_well e (fails.stays_empty c stands held is) = absurd (never_empty own history legal past heard t lost taken hears files chunks c stands held)
+  check_well e (fails.no_index document listed failed) = room e (lists.index_well own history legal past heard t lost taken hears files chunks document e listed failed)
+  check_well e (fails.too_many c l many is) = absurd (never_too_many own history legal past heard t lost taken hears files chunks rises few c l many)
 
   no_limit : (e : Error) → IsCommonKind e.kind → NoLimit past (put_aim t) e → Excused e
   no_limit e common (inl full) = room e full
-  no_limit e common (inr (inl failed)) = room e (chunks_well past own history lost taken t files chunks e fresh failed.0 failed.1)
-  no_limit e common (inr (inr (inl failed))) = room e (record_well past own history lost taken t files chunks e fresh (record_of (put_aim t) failed.0) failed.1)
+  no_limit e common (inr (inl failed)) = room e (chunks_well past own history t lost taken files chunks e fresh failed.0 failed.1)
+  no_limit e common (inr (inr (inl failed))) = room e (record_well past own history t lost taken files chunks e fresh (record_of (put_aim t) failed.0) failed.1)
   no_limit e common (inr (inr (inr is))) = absurd (subst (λ (x : Error). IsCommonKind x.kind) is common)
 
   upload_well : (e : Error) → IsPutError t e → UploadFails past (put_aim t) e → Excused e
@@ -79,7 +80,7 @@ module _ (own : List ℕ) (history : List Step) (legal : IsLegal history) (past 
   removal_well : (original : Option Error) (d e : Error) → RemovalFails past (put_aim t) d → FailsToUndo original d e → Excused e
   removal_well original d e (causes.out_of_memory full) both = room e (undone_by original d e full both)
   removal_well original d e (causes.not_built cannot) both = inr (limits.a_removal original d cannot both)
-  removal_well original d e (causes.by_deletion failed) both = room e (undone_by original d e (deletion_well past own history lost taken t files chunks d t.id failed) both)
+  removal_well original d e (causes.by_deletion failed) both = room e (undone_by original d e (deletion_well past own history t lost taken files chunks d failed) both)
 
   call_well : (e : Error) → PutFails past t e → Excused e
   call_well e (fails.check_fails failed) = check_well e failed

@@ -1,5 +1,5 @@
 -- Which steps of a job its store does not refuse, where every fate keeps its command: those of an insert into a collection with short names, and those of an opening that may begin.
-use Rattle.std.proofs.Common.{◌≡◌, ◌≤◌, ◌+◌, ◌++◌, ℕ, zero, ℤ, pos, suc, Bool, true, false, List, [], ◌∷◌, length, take, Contains, Option, Some, None, refl, sym, ap, ◌∙◌, subst, inl, inr, arith}
+use Rattle.std.proofs.Common.{◌≡◌, ◌⊎◌, ◌≤◌, ◌+◌, ◌++◌, ℕ, zero, ℤ, pos, suc, Bool, true, false, List, [], ◌∷◌, length, take, Contains, Option, Some, None, refl, sym, ap, ◌∙◌, subst, inl, inr, arith}
 use Rattle.std.specs.Prelude.{option_and_then, slice_get}
 use Rattle.std.specs.List.{sum_by}
 use Rattle.std.proofs.lemmas.List.Elements.{Contains-append_cases, Contains-push_cases}
@@ -52,17 +52,19 @@ use Rattle.mg_script.specs.declared.outcome.Ended.{Ended}
 use Rattle.mg_script.specs.declared.outcome.Ended.TheVariants as ended
 use Rattle.mg_script.specs.declared.outcome.Outcome.{Outcome}
 use Rattle.mg_script.specs.declared.outcome.Turned.{Turned}
-use Rattle.mg_players.specs.Causes.{AllSentIn, Course, FallsAt, FollowCaused, InsertEnds, OutcomeCaused, PutEnds, command_at, commands_at, course, places_of}
-use Rattle.mg_jobs.specs.Completing.{AnswersWell, EndsWell, Excuses, FindsNothing, FollowEndsIn, FollowWell, GetWell, HasShortNames, IsMemory, IsThere, JobWell, JobWellIn, MayBegin, NoneRefused, OutcomeEnds, OutcomeEndsIn, SendFresh, own_excuses, own_position, positions_at}
+use Rattle.mg_players.specs.Causes.{AllSentIn, Course, FallsAt, FollowCaused, InsertEnds, OutcomeCaused, command_at, commands_at, course, places_of}
+use Rattle.mg_jobs.specs.Completing.{AnswersWell, EndsWell, Excuses, FindsNothing, FitsLimits, FollowEndsIn, FollowWell, GetWell, HasShortFiles, HasShortNames, IsMemory, IsThere, JobWell, JobWellIn, MayBegin, NoneRefused, OutcomeEnds, OutcomeEndsIn, PutEndsIn, SendFresh, StandsWhole, own_excuses, own_position, positions_at}
 use Rattle.mg_players.specs.Counts.{StartedBy}
-use Rattle.mg_players.specs.Drawing.{as_sent}
+use Rattle.mg_players.specs.Drawing.{as_sent, supply_of}
 use Rattle.mg_jobs.specs.Fated.{AreItsSteps}
 use Rattle.mg_players.specs.Follows.{IsArgsFor, options_of, stages_of, start_of}
 use Rattle.mg_players.specs.Progress.{FollowPlayed, IsPlayed, pends_last, turns_done}
+use Rattle.mg_players.specs.Kinds.{OfPut}
 use Rattle.mg_players.specs.Gets.{GetTask, IsGetCommand, chunks_find, for_chunks, for_more, for_record, get_of, no_manner, record_find}
-use Rattle.mg_jobs.specs.PutLimits.{HasFewIndexes, IsValidPut}
-use Rattle.mg_players.specs.PutSends.{chunks_removal, of_check, plain_manner, reads_on, record_insert}
-use Rattle.mg_players.specs.Puts.{PutTask, put_bucket, put_of}
+use Rattle.mg_jobs.specs.Own.{IsHeard}
+use Rattle.mg_jobs.specs.PutLimits.{CannotPut, HasFewIndexes, IsExcusedPut, IsValidPut}
+use Rattle.mg_players.specs.PutSends.{chunks_removal, of_check, reads_on, record_insert}
+use Rattle.mg_players.specs.Puts.{PutTask, Supply, put_bucket, put_of}
 use Rattle.mg_players.specs.Sends.{IsPutCommand, MaySend, SendsOnly, asks, checks, inserts, kills, opens, records, removes, resumes}
 use Rattle.mg_jobs.proofs.Added.{AreModestEntries, first_by_rules, kept_modest}
 use Rattle.mg_jobs.proofs.Mild.{IsMildCommand, IsQuiet, creates_mild, deletes_mild, finds_mild, indexes_mild, inserts_mild, lists_mild, quiet_mild}
@@ -125,7 +127,7 @@ kept_from s given started (k ∷ kept) zero step at = (k, refl, ap (λ (x : Step
 kept_from s given started (k ∷ kept) (suc p) step at = kept_from (state_behind s given started k) (given_after given k) true kept p step at
 
 -- a step that was kept
-get_kept : (kept : List Kept) (p : ℕ) (step : Step) → slice_get (steps_of kept) p ≡ Some step → (k : Kept) × (slice_get kept p ≡ Some k) × (k.command ≡ step.command)
+pub get_kept : (kept : List Kept) (p : ℕ) (step : Step) → slice_get (steps_of kept) p ≡ Some step → (k : Kept) × (slice_get kept p ≡ Some k) × (k.command ≡ step.command)
 get_kept kept p step at = kept_from nothing 0 false kept p step at
 
 -- want of memory excuses each job
@@ -135,12 +137,37 @@ full_own c i calls (insert ns docs) e room = inl room
 full_own c i calls (put db bucket name id chunk pieces) e room = inl room
 full_own c i calls (get db bucket id read) e room = inl room
 
--- none of the steps of a follow is refused that may begin and had its turns
+-- none of the steps of a follow is refused that may begin and had its turns, nor of a get of a file that is whole, from collections with short names
 abbrev pub TakesValid : Course → ℕ → List Call → List Step → Task → Type 0
 TakesValid c i calls history (follow on count start filter batch) = (SizePasses batch → ⊥) → suc count ≤ turns_done i c.order c.notes → MayBegin c i calls history on start filter → NoneRefused c i calls history
 TakesValid c i calls history (insert ns docs) = Unit {0}
 TakesValid c i calls history (put db bucket name id chunk pieces) = Unit {0}
-TakesValid c i calls history (get db bucket id read) = Unit {0}
+TakesValid c i calls history (get db bucket id read) = HasShortFiles (get_of db bucket id read).at → (bytes : List ℕ) → StandsWhole c i calls history (get_of db bucket id read) bytes → NoneRefused c i calls history
+
+-- a valid put of fresh documents ends well whose names may be
+abbrev pub PutsWell : Excuses → Course → ℕ → List Call → List Step → Task → Outcome → Type 0
+PutsWell excuses c i calls history (follow on count start filter batch) = λ r. Unit {0}
+PutsWell excuses c i calls history (insert ns docs) = λ r. Unit {0}
+PutsWell excuses c i calls history (put db bucket name id chunk pieces) =
+    OfPut (λ end. HasShortFiles (put_of db bucket name id chunk pieces).at → IsValidPut (put_of db bucket name id chunk pieces) → SendFresh (positions_at calls (places_of c i)) history → length pieces + 2 ≤ turns_done i c.order c.notes → EndsWell (excuses ⊥) end)
+PutsWell excuses c i calls history (get db bucket id read) = λ r. Unit {0}
+
+-- where it fits the limits, want of memory alone excuses it
+memory_alone : (heard : List ℕ → Type 0) (t : PutTask) (end : Ended ℕ) → ((e : Error) → CannotPut heard t e → ⊥) → EndsWell (IsExcusedPut heard t) end → EndsWell (IsMemory ⊥) end
+memory_alone heard t ended.Unfinished fit well = well
+memory_alone heard t (ended.Gave n) fit well = tt
+memory_alone heard t (ended.Failed e) fit well = elim well [ inl room ↦ room | inr cannot ↦ absurd (fit e cannot) ]
+
+puts_fit : (c : Course) (i : ℕ) (calls : List Call) (history : List Step) (t : Task) (r : Outcome) → FitsLimits c i calls t → PutsWell (own_excuses c i calls t) c i calls history t r → PutsWell IsMemory c i calls history t r
+puts_fit c i calls history (follow on count start filter batch) r fit well = tt
+puts_fit c i calls history (insert ns docs) r fit well = tt
+puts_fit c i calls history (put db bucket name id chunk pieces) r fit well =
+    let t : PutTask = put_of db bucket name id chunk pieces in
+    put_both (λ end. HasShortFiles t.at → IsValidPut t → SendFresh (positions_at calls (places_of c i)) history → length pieces + 2 ≤ turns_done i c.order c.notes → EndsWell (IsExcusedPut (IsHeard c i calls) t) end)
+    (λ end. HasShortFiles t.at → IsValidPut t → SendFresh (positions_at calls (places_of c i)) history → length pieces + 2 ≤ turns_done i c.order c.notes → EndsWell (IsExcusedPut (IsHeard c i calls) t) end)
+    (λ end. HasShortFiles t.at → IsValidPut t → SendFresh (positions_at calls (places_of c i)) history → length pieces + 2 ≤ turns_done i c.order c.notes → EndsWell (IsMemory ⊥) end)
+    (λ end ends again may valid fresh turns. memory_alone (IsHeard c i calls) t end fit (ends may valid fresh turns)) r well well
+puts_fit c i calls history (get db bucket id read) r fit well = tt
 
 -- an aggregate changes nothing
 aggregate_mild : (command : List ℕ) (a : ChangeStreamAggregate) (wire : ℤ) → fields command ≡ resuming_in a wire None → IsMildCommand (fields command)
@@ -156,7 +183,7 @@ aggregate_mild command a wire is =
 -- ---- the step of an insert
 
 -- the rules' reply to an insert of these names tells of no refusal
-tells_inserted : (s : State) (id : ℤ) (command given : List ℕ) (at : Space) (ds : List Fields) → HasShortNames at → fields command ≡ insert_command at ds → fields given ≡ (answer_of s id (fields command)).reply → IsRefused (told (asked command) given) → ⊥
+pub tells_inserted : (s : State) (id : ℤ) (command given : List ℕ) (at : Space) (ds : List Fields) → HasShortNames at → fields command ≡ insert_command at ds → fields given ≡ (answer_of s id (fields command)).reply → IsRefused (told (asked command) given) → ⊥
 tells_inserted s id command given at ds names is read refused =
     let i = inserting at true 0 (length s.changes) (documents_of s at) ds in
     let by = inserting_is at true 0 (length s.changes) (documents_of s at) ds in
@@ -205,8 +232,8 @@ module _ (history : List Kept) (fates : List Fate) (kept : AreKept 0 fates) (cal
       }
 
   -- none of the steps of an insert is refused
-  none_refused : (c : Course) (i : ℕ) (ns : Space) (docs : List Fields) → SendsOnly (MaySend (insert ns docs)) c i calls → AllSentIn c i 0 (places_of c i) → HasShortNames ns → NoneRefused c i calls (steps_of history)
-  none_refused c i ns docs sends sent names position step own at =
+  none_refused : (supply : Supply) (c : Course) (i : ℕ) (ns : Space) (docs : List Fields) → SendsOnly (MaySend supply (insert ns docs)) c i calls → AllSentIn c i 0 (places_of c i) → HasShortNames ns → NoneRefused c i calls (steps_of history)
+  none_refused supply c i ns docs sends sent names position step own at =
       let by = call_at calls (places_of c i) position own in
       let r = step_by by.place by.call position step by.there by.position_is at in
       let p = sends.each 0 by.place by.call (sent by.place by.of) by.there in
@@ -251,9 +278,16 @@ module _ (history : List Kept) (fates : List Fate) (kept : AreKept 0 fates) (cal
         opens_well (ended.Failed e) closed said token alive k last well (inr f) played turns may =
             well (answered (none_refused_opening c i on start filter batch wire f.args f.args_are (subst (λ (places : List ℕ). FallsAt (IsOpening f.args wire None) calls 3 places 1) f.whole f.opens) small may))
 
-      ends_in : (t : Task) (r : Outcome) → SendsOnly (MaySend t) c i calls → OutcomeCaused awaited c i calls wire t r → IsPlayed t (turns_done i c.order c.notes) (pends_last i c.order c.notes) r → OutcomeEnds excuses c i calls t r → TakesValid c i calls (steps_of history) t → OutcomeEndsIn excuses c i calls (steps_of history) t r
+      -- a get, whose steps were not refused where its collections have short names
+      get_ends : (g : GetTask) (end : Ended (Unit {0})) → ((by : AnswersWell c i calls) → GetWell (excuses ⊥) c i calls by.history g end) → (HasShortFiles g.at → (bytes : List ℕ) → StandsWhole c i calls (steps_of history) g bytes → NoneRefused c i calls (steps_of history))
+          → NoneRefused c i calls (steps_of history) ⊎ HasShortFiles g.at → GetWell (excuses ⊥) c i calls (steps_of history) g end
       unfolding answers_well
-      ends_in (follow on count start filter batch) r sends caused played ends takes =
+      get_ends g end well takes (inl taken) = well (answered taken)
+      get_ends g end well takes (inr may) = λ named some whole is turns. well (answered (takes may whole is)) named some whole is turns
+
+      ends_in : (supply : Supply) (t : Task) (r : Outcome) → SendsOnly (MaySend supply t) c i calls → OutcomeCaused awaited c i calls wire supply t r → IsPlayed t (turns_done i c.order c.notes) (pends_last i c.order c.notes) r → OutcomeEnds excuses c i calls t r → TakesValid c i calls (steps_of history) t → PutsWell excuses c i calls (steps_of history) t r → OutcomeEndsIn excuses c i calls (steps_of history) t r
+      unfolding answers_well
+      ends_in supply (follow on count start filter batch) r sends caused played ends takes puts =
           let k : ℕ = turns_done i c.order c.notes in
           let last : Bool = pends_last i c.order c.notes in
           follow_both (λ opened said token alive closed. (by : AnswersWell c i calls) → (SizePasses batch → ⊥) → suc count ≤ k → FollowWell excuses (FindsNothing c i calls by.history) count opened said.items closed)
@@ -266,28 +300,31 @@ module _ (history : List Kept) (fates : List Fate) (kept : AreKept 0 fates) (cal
           }) r ends
           (follow_both (λ opened said token alive closed. FollowCaused awaited c i count calls wire on start filter batch opened said.items token alive closed) (λ opened said token alive closed. FollowPlayed opened closed count (length said.items) alive k last)
           (λ opened said token alive closed. FollowCaused awaited c i count calls wire on start filter batch opened said.items token alive closed × FollowPlayed opened closed count (length said.items) alive k last) (λ opened said token alive closed a b. (a, b)) r caused played)
-      ends_in (insert ns docs) r sends caused played ends takes =
+      ends_in supply (insert ns docs) r sends caused played ends takes puts =
           let k : ℕ = turns_done i c.order c.notes in
           insert_both (λ end. (by : AnswersWell c i calls) → IsNamed ns → SendFresh by.own by.history → 1 ≤ k → EndsWell (excuses ⊥) end) (λ end. InsertEnds awaited c i calls wire ns docs end)
           (λ end. HasShortNames ns → SendFresh (positions_at calls (places_of c i)) (steps_of history) → 1 ≤ k → EndsWell (excuses ⊥) end)
-          (λ end well why names fresh turns. well (answered (none_refused c i ns docs sends (subst (AllSentIn c i 0) why.whole why.sent) names)) names.named fresh turns) r ends caused
-      ends_in (put db bucket name id chunk pieces) r sends caused played ends takes =
+          (λ end well why names fresh turns. well (answered (none_refused supply c i ns docs sends (subst (AllSentIn c i 0) why.whole why.sent) names)) names.named fresh turns) r ends caused
+      ends_in supply (put db bucket name id chunk pieces) r sends caused played ends takes puts =
           let k : ℕ = turns_done i c.order c.notes in
           let t : PutTask = put_of db bucket name id chunk pieces in
-          put_both (λ end. (by : AnswersWell c i calls) → IsValidPut t → SendFresh by.own by.history → HasFewIndexes by.own by.history t → length pieces + 2 ≤ k → EndsWell (excuses ⊥) end) (λ end. PutEnds awaited c i calls wire t end)
-          (λ end. NoneRefused c i calls (steps_of history) → IsValidPut t → SendFresh (positions_at calls (places_of c i)) (steps_of history) → HasFewIndexes (positions_at calls (places_of c i)) (steps_of history) t → length pieces + 2 ≤ k → EndsWell (excuses ⊥) end)
-          (λ end well why taken valid fresh few turns. well (answered taken) valid fresh few turns) r ends caused
-      ends_in (get db bucket id read) r sends caused played ends takes =
+          put_both (λ end. (by : AnswersWell c i calls) → IsValidPut t → SendFresh by.own by.history → HasFewIndexes by.own by.history t → length pieces + 2 ≤ k → EndsWell (excuses ⊥) end)
+          (λ end. HasShortFiles t.at → IsValidPut t → SendFresh (positions_at calls (places_of c i)) (steps_of history) → length pieces + 2 ≤ k → EndsWell (excuses ⊥) end)
+          (λ end. IsValidPut t → SendFresh (positions_at calls (places_of c i)) (steps_of history) → length pieces + 2 ≤ k → PutEndsIn (excuses ⊥) (HasShortFiles t.at) (NoneRefused c i calls (steps_of history)) (HasFewIndexes (positions_at calls (places_of c i)) (steps_of history) t) end)
+          (λ end well goes valid fresh turns. record { goes_well = λ may. goes may valid fresh turns; ends = λ taken few. well (answered taken) valid fresh few turns }) r ends puts
+      ends_in supply (get db bucket id read) r sends caused played ends takes puts =
           let g : GetTask = get_of db bucket id read in
-          get_both (λ bytes end. (by : AnswersWell c i calls) → GetWell (excuses ⊥) c i calls by.history g end) (λ bytes end. (by : AnswersWell c i calls) → GetWell (excuses ⊥) c i calls by.history g end) (λ bytes end. NoneRefused c i calls (steps_of history) → GetWell (excuses ⊥) c i calls (steps_of history) g end)
-          (λ bytes end well again taken. well (answered taken)) r ends ends
+          get_both (λ bytes end. (by : AnswersWell c i calls) → GetWell (excuses ⊥) c i calls by.history g end) (λ bytes end. (by : AnswersWell c i calls) → GetWell (excuses ⊥) c i calls by.history g end)
+          (λ bytes end. NoneRefused c i calls (steps_of history) ⊎ HasShortFiles g.at → GetWell (excuses ⊥) c i calls (steps_of history) g end)
+          (λ bytes end well again. get_ends g end well takes) r ends ends
 
     -- A job of a run over this store ends so in its history.
-    pub job_ends_in : IsLegal (steps_of history) → HoldsBackNone (steps_of history) → (awaited : Awaited) (wire : ℤ) (c : Course) (i : ℕ) (t : Task) (r : Outcome) → SendsOnly (MaySend t) c i calls → OutcomeCaused awaited c i calls wire t r
-        → IsPlayed t (turns_done i c.order c.notes) (pends_last i c.order c.notes) r → JobWell c i calls t r → TakesValid c i calls (steps_of history) t → JobWellIn c i calls (steps_of history) t r
-    job_ends_in legal prompt awaited wire c i t r sends caused played well takes = (
-      ends_in legal prompt (own_excuses c i calls t) awaited wire c i (full_own c i calls t) t r sends caused played well.0 takes,
-      λ fit. ends_in legal prompt IsMemory awaited wire c i (λ e room. room) t r sends caused played (well.1 fit) takes,
+    pub job_ends_in : IsLegal (steps_of history) → HoldsBackNone (steps_of history) → (awaited : Awaited) (wire : ℤ) (c : Course) (i : ℕ) (supply : Supply) (t : Task) (r : Outcome) → SendsOnly (MaySend supply t) c i calls → OutcomeCaused awaited c i calls wire supply t r
+        → IsPlayed t (turns_done i c.order c.notes) (pends_last i c.order c.notes) r → JobWell c i calls t r → TakesValid c i calls (steps_of history) t → PutsWell (own_excuses c i calls t) c i calls (steps_of history) t r
+        → JobWellIn c i calls (steps_of history) t r
+    job_ends_in legal prompt awaited wire c i supply t r sends caused played well takes puts = (
+      ends_in legal prompt (own_excuses c i calls t) awaited wire c i (full_own c i calls t) supply t r sends caused played well.0 takes puts,
+      λ fit. ends_in legal prompt IsMemory awaited wire c i (λ e room. room) supply t r sends caused played (well.1 fit) takes (puts_fit c i calls (steps_of history) t r fit puts),
     )
 
 -- ---- the commands of a run
@@ -299,12 +336,12 @@ check_mild b ls (a_creation at is) = subst (λ (ls : List Line). IsMildCommand (
 check_mild b ls (a_listing at is) = subst (λ (ls : List Line). IsMildCommand (fields_in ls)) (sym is) (lists_mild (fields_in (listing_lines b at)) refl)
 check_mild b ls (an_index at is) = subst (λ (ls : List Line). IsMildCommand (fields_in ls)) (sym is) (indexes_mild (fields_in (index_lines b at)) refl)
 
-put_mild : (t : PutTask) (fs : Fields) → IsPutCommand t fs → IsMildCommand fs
-put_mild t fs (checks (of_check ls of is)) = subst IsMildCommand (sym is) (check_mild (put_bucket t) ls of)
-put_mild t fs (checks (reads_on id space is)) = subst IsMildCommand (sym is) (more_mild id space plain_manner)
-put_mild t fs (inserts from upto its) = subst IsMildCommand (sym its.command_is) (inserts_mild (fields_in (chunks_lines (put_bucket t) (chunk_documents its.ids 0 t.id from its.piece))) refl)
-put_mild t fs (records moment is) = subst IsMildCommand (sym is) (inserts_mild (record_insert t moment) refl)
-put_mild t fs (removes is) = subst IsMildCommand (sym is) (deletes_mild (chunks_removal t) refl)
+put_mild : (supply : Supply) (t : PutTask) (fs : Fields) → IsPutCommand supply t fs → IsMildCommand fs
+put_mild supply t fs (checks (of_check ls of is)) = subst IsMildCommand (sym is) (check_mild (put_bucket t) ls of)
+put_mild supply t fs (checks (reads_on id space is)) = subst IsMildCommand (sym is) (more_mild id space no_manner)
+put_mild supply t fs (inserts from upto its) = subst IsMildCommand (sym its.command_is) (inserts_mild (fields_in (chunks_lines (put_bucket t) (chunk_documents its.ids 0 t.id from its.piece))) refl)
+put_mild supply t fs (records moment its is) = subst IsMildCommand (sym is) (inserts_mild (record_insert t moment) refl)
+put_mild supply t fs (removes is) = subst IsMildCommand (sym is) (deletes_mild (chunks_removal t) refl)
 
 get_mild : (g : GetTask) (fs : Fields) → IsGetCommand g fs → IsMildCommand fs
 get_mild g fs (for_record room is) = subst IsMildCommand (sym is) (finds_mild (record_find g) refl)
@@ -312,21 +349,21 @@ get_mild g fs (for_chunks room id is) = subst IsMildCommand (sym is) (finds_mild
 get_mild g fs (for_more room cursor space is) = subst IsMildCommand (sym is) (more_mild cursor space no_manner)
 
 -- a job's command is mild
-sends_mildly : (t : Task) (command : List ℕ) → MaySend t (fields command) → IsMildCommand (fields command)
+sends_mildly : (supply : Supply) (t : Task) (command : List ℕ) → MaySend supply t (fields command) → IsMildCommand (fields command)
 unfolding asked
-sends_mildly (insert ns docs) command p = subst IsMildCommand (sym p.command_is) (inserts_mild (insert_command ns p.piece) refl)
-sends_mildly (follow on count start filter batch) command (opens args wire its is) = aggregate_mild command (first_aggregate args) wire is
-sends_mildly (follow on count start filter batch) command (resumes a wire its is) = aggregate_mild command a wire is
-sends_mildly (follow on count start filter batch) command (asks args its id space is) = subst IsMildCommand (sym is) (more_mild id space (watch_manner args.options))
-sends_mildly (follow on count start filter batch) command (kills space ids is) = quiet_mild (fields command) (subst IsQuiet (sym (asks_to_kill_plainly command space ids is)) tt)
-sends_mildly (put db bucket name id chunk pieces) command p = put_mild (put_of db bucket name id chunk pieces) (fields command) p
-sends_mildly (get db bucket id read) command p = get_mild (get_of db bucket id read) (fields command) p
+sends_mildly supply (insert ns docs) command p = subst IsMildCommand (sym p.command_is) (inserts_mild (insert_command ns p.piece) refl)
+sends_mildly supply (follow on count start filter batch) command (opens args wire its is) = aggregate_mild command (first_aggregate args) wire is
+sends_mildly supply (follow on count start filter batch) command (resumes a wire its is) = aggregate_mild command a wire is
+sends_mildly supply (follow on count start filter batch) command (asks args its id space is) = subst IsMildCommand (sym is) (more_mild id space (watch_manner args.options))
+sends_mildly supply (follow on count start filter batch) command (kills space ids is) = quiet_mild (fields command) (subst IsQuiet (sym (asks_to_kill_plainly command space ids is)) tt)
+sends_mildly supply (put db bucket name id chunk pieces) command p = put_mild supply (put_of db bucket name id chunk pieces) (fields command) p
+sends_mildly supply (get db bucket id read) command p = get_mild (get_of db bucket id read) (fields command) p
 
--- Where each step is that of a call, and each call was sent by a job in its turns, all commands are mild.
-pub run_mildly : (history : List Kept) (calls : List Call) → AreItsSteps history calls → Stands calls (steps_of history) → (ids : ℕ → List ℕ) (ts : List Task) (order : List ℕ) (notes : List Turned) → first_missing (length ts) order ≡ None → length notes ≡ length order
+-- Where each step is that of a call, and each call was sent by a job in its turns, all commands are such as all that jobs may send.
+pub run_each : (Says : Fields → Type 0) → ((supply : Supply) (t : Task) (command : List ℕ) → MaySend supply t (fields command) → Says (fields command)) → (history : List Kept) (calls : List Call) → AreItsSteps history calls → Stands calls (steps_of history) → (supply : Supply) (ts : List Task) (order : List ℕ) (notes : List Turned) → first_missing (length ts) order ≡ None → length notes ≡ length order
     → StartedBy (sum_by (λ (n : Turned). n.started) notes) (Some []) (Some calls)
-    → ((i : ℕ) (t : Task) → slice_get ts i ≡ Some t → SendsOnly (MaySend (as_sent ids ts order i t)) (course [] order notes) i calls) → (p : ℕ) (k : Kept) → slice_get history p ≡ Some k → IsMildCommand (fields k.command)
-run_mildly history calls alone stands ids ts order notes named abreast started sends p k at =
+    → ((i : ℕ) (t : Task) → slice_get ts i ≡ Some t → SendsOnly (MaySend (supply_of supply ts order i) (as_sent supply.ids ts order i t)) (course [] order notes) i calls) → (p : ℕ) (k : Kept) → slice_get history p ≡ Some k → Says (fields k.command)
+run_each Says such history calls alone stands supply ts order notes named abreast started sends p k at =
     let s = alone p (slice_get_within history p k at) in
     let all = started [] refl in
     let same : all.0 ≡ calls = same_some all.0 calls (sym all.1) in
@@ -339,4 +376,10 @@ run_mildly history calls alone stands ids ts order notes named abreast started s
     let may = (sends turn.0 t.0 t.1).each turn.1 s.0 s.1 turn.2 s.2 in
     let step = stands.same s.0 s.1 p s.2 s.3 in
     let command_is : k.command ≡ s.1.command = ap (λ (x : Kept). x.command) (sym (same_some (get_kept history p step.0 step.1).0 k (sym (get_kept history p step.0 step.1).1 ∙ at))) ∙ (get_kept history p step.0 step.1).2 ∙ step.2 in
-    subst (λ (command : List ℕ). IsMildCommand (fields command)) (sym command_is) (sends_mildly (as_sent ids ts order turn.0 t.0) s.1.command may)
+    subst (λ (command : List ℕ). Says (fields command)) (sym command_is) (such (supply_of supply ts order turn.0) (as_sent supply.ids ts order turn.0 t.0) s.1.command may)
+
+-- They are mild.
+pub run_mildly : (history : List Kept) (calls : List Call) → AreItsSteps history calls → Stands calls (steps_of history) → (supply : Supply) (ts : List Task) (order : List ℕ) (notes : List Turned) → first_missing (length ts) order ≡ None → length notes ≡ length order
+    → StartedBy (sum_by (λ (n : Turned). n.started) notes) (Some []) (Some calls)
+    → ((i : ℕ) (t : Task) → slice_get ts i ≡ Some t → SendsOnly (MaySend (supply_of supply ts order i) (as_sent supply.ids ts order i t)) (course [] order notes) i calls) → (p : ℕ) (k : Kept) → slice_get history p ≡ Some k → IsMildCommand (fields k.command)
+run_mildly history calls alone stands supply ts order notes named abreast started sends = run_each IsMildCommand sends_mildly history calls alone stands supply ts order notes named abreast started sends

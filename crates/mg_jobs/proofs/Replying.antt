@@ -61,10 +61,10 @@ few_listed space index place there [] = none refl
 few_listed space index place there (d ∷ ds) =
     few_chosen (accept there d) (λ id. with_document d (insert_entry (suc place) space id d) (inserting space true (suc index) (suc place) (there ++ d ∷ []) ds)) index (λ id. few_listed space (suc index) (suc place) (there ++ d ∷ []) ds)
 
-abbrev replies : Bool → ℕ → Items → Fields
+abbrev pub replies : Bool → ℕ → Items → Fields
 replies b n errors = "n" ⇒ (if b then int32 (pos n) else int64 (pos n)) ⨾ errors_field errors ("ok" ⇒ int32 (pos 1) ⨾ empty)
 
-small_none : (b : Bool) (n : ℕ) → IsSmall (replies b n no_items)
+pub small_none : (b : Bool) (n : ℕ) → IsSmall (replies b n no_items)
 unfolding le32 le64
 small_none true n = (omega arith, omega arith)
 small_none false n = (omega arith, omega arith)

@@ -32,13 +32,13 @@ use Rattle.mg_script.specs.declared.outcome.Outcome.TheVariants as outcome
 use Rattle.mg_script.specs.declared.outcome.Turned.{Turned}
 use Rattle.mg_players.specs.Causes.{CloseCaused, Course, FallsAt, FollowCaused, OpenCaused, OutcomeCaused, SentIn, at_rest, course, in_call, in_closing, places_of, sent_at}
 use Rattle.mg_players.specs.Counts.{StartedBy}
-use Rattle.mg_players.specs.Drawing.{as_sent}
+use Rattle.mg_players.specs.Drawing.{as_sent, supply_of}
 use Rattle.mg_players.specs.Follows.{IsArgsFor}
 use Rattle.mg_players.specs.Gets.{GetTask, IsGetCommand, chunks_find, for_chunks, for_more, for_record, get_of, no_manner, record_find}
 use Rattle.mg_players.specs.Kinds.{OfFollow}
 use Rattle.mg_players.specs.Progress.{FollowPlayed, IsPlayed, pends_last, turns_done}
-use Rattle.mg_players.specs.PutSends.{chunks_removal, of_check, plain_manner, reads_on, record_insert}
-use Rattle.mg_players.specs.Puts.{PutTask, put_bucket, put_of}
+use Rattle.mg_players.specs.PutSends.{chunks_removal, of_check, reads_on, record_insert}
+use Rattle.mg_players.specs.Puts.{PutTask, Supply, put_bucket, put_of}
 use Rattle.mg_players.specs.Sends.{IsPutCommand, MaySend, SendsOnly, checks, inserts, records, removes}
 use Rattle.mg_jobs.proofs.Identified.{StandsWell, opened_well}
 use Rattle.mg_jobs.proofs.Killers.{IsSparing, creates_spare, deletes_spare, finds_spare, indexes_spare, inserts_spare, lists_spare, next_spares, resuming_spares}
@@ -58,12 +58,12 @@ check_spares b ls (a_creation at is) = subst (λ (ls : List Line). IsSparing (fi
 check_spares b ls (a_listing at is) = subst (λ (ls : List Line). IsSparing (fields_in ls)) (sym is) (lists_spare (fields_in (listing_lines b at)) refl)
 check_spares b ls (an_index at is) = subst (λ (ls : List Line). IsSparing (fields_in ls)) (sym is) (indexes_spare (fields_in (index_lines b at)) refl)
 
-put_spares : (t : PutTask) (fs : Fields) → IsPutCommand t fs → IsSparing fs
-put_spares t fs (checks (of_check ls of is)) = subst IsSparing (sym is) (check_spares (put_bucket t) ls of)
-put_spares t fs (checks (reads_on id space is)) = subst IsSparing (sym is) (next_spares id space plain_manner)
-put_spares t fs (inserts from upto its) = subst IsSparing (sym its.command_is) (inserts_spare (fields_in (chunks_lines (put_bucket t) (chunk_documents its.ids 0 t.id from its.piece))) refl)
-put_spares t fs (records moment is) = subst IsSparing (sym is) (inserts_spare (record_insert t moment) refl)
-put_spares t fs (removes is) = subst IsSparing (sym is) (deletes_spare (chunks_removal t) refl)
+put_spares : (supply : Supply) (t : PutTask) (fs : Fields) → IsPutCommand supply t fs → IsSparing fs
+put_spares supply t fs (checks (of_check ls of is)) = subst IsSparing (sym is) (check_spares (put_bucket t) ls of)
+put_spares supply t fs (checks (reads_on id space is)) = subst IsSparing (sym is) (next_spares id space no_manner)
+put_spares supply t fs (inserts from upto its) = subst IsSparing (sym its.command_is) (inserts_spare (fields_in (chunks_lines (put_bucket t) (chunk_documents its.ids 0 t.id from its.piece))) refl)
+put_spares supply t fs (records moment its is) = subst IsSparing (sym is) (inserts_spare (record_insert t moment) refl)
+put_spares supply t fs (removes is) = subst IsSparing (sym is) (deletes_spare (chunks_removal t) refl)
 
 get_spares : (g : GetTask) (fs : Fields) → IsGetCommand g fs → IsSparing fs
 get_spares g fs (for_record room is) = subst IsSparing (sym is) (finds_spare (record_find g) refl)
@@ -135,29 +135,29 @@ module _ (history : List Step) (calls : List Call) (legal : IsLegal history) (st
   -- ---- any job
 
   -- What the command at a place of a job kills, the job opened.
-  pub job_kills : (t : Task) (r : Outcome) → SendsOnly (MaySend t) c i calls → OutcomeCaused awaited c i calls wire t r → IsPlayed t (turns_done i c.order c.notes) (pends_last i c.order c.notes) r
+  pub job_kills : (supply : Supply) (t : Task) (r : Outcome) → SendsOnly (MaySend supply t) c i calls → OutcomeCaused awaited c i calls wire supply t r → IsPlayed t (turns_done i c.order c.notes) (pends_last i c.order c.notes) r
       → (k place : ℕ) (call : Call) (x : ℤ) → SentIn c i k place → slice_get calls place ≡ Some call → KillsIt (fields call.command) x → IsOpenedIn calls history its x
-  job_kills (follow on count start filter batch) r sends caused played k place call x sent there kills =
+  job_kills supply (follow on count start filter batch) r sends caused played k place call x sent there kills =
       always KillsItsOwn r
       (follow_both (λ opened said token alive closed. FollowCaused awaited c i count calls wire on start filter batch opened said.items token alive closed) (λ opened said token alive closed. FollowPlayed opened closed count (length said.items) alive (turns_done i c.order c.notes) (pends_last i c.order c.notes))
       (λ opened said token alive closed. KillsItsOwn) (λ opened said token alive closed why plays. follow_kills on count start filter batch opened closed said.items token alive (turns_done i c.order c.notes) refl (pends_last i c.order c.notes) why plays) r caused played)
       place call x (sent_place c i k place sent) there kills
-  job_kills (insert ns docs) r sends caused played k place call x sent there kills =
+  job_kills supply (insert ns docs) r sends caused played k place call x sent there kills =
       let p = sends.each k place call sent there in
       absurd (inserts_spare (insert_command ns p.piece) refl x (subst (λ (fs : Fields). KillsIt fs x) p.command_is kills))
-  job_kills (put db bucket name id chunk pieces) r sends caused played k place call x sent there kills = absurd (put_spares (put_of db bucket name id chunk pieces) (fields call.command) (sends.each k place call sent there) x kills)
-  job_kills (get db bucket id read) r sends caused played k place call x sent there kills = absurd (get_spares (get_of db bucket id read) (fields call.command) (sends.each k place call sent there) x kills)
+  job_kills supply (put db bucket name id chunk pieces) r sends caused played k place call x sent there kills = absurd (put_spares supply (put_of db bucket name id chunk pieces) (fields call.command) (sends.each k place call sent there) x kills)
+  job_kills supply (get db bucket id read) r sends caused played k place call x sent there kills = absurd (get_spares (get_of db bucket id read) (fields call.command) (sends.each k place call sent there) x kills)
 
 -- ---- a run
 
 -- What a call of a run kills its own job opened: it is job i, or the cursor is none of its.
-pub run_kills : (history : List Step) (calls : List Call) → IsLegal history → Stands calls history → (awaited : Awaited) (wire : ℤ) (ids : ℕ → List ℕ) (ts : List Task) (order : List ℕ) (notes : List Turned) (rs : List Outcome) → first_missing (length ts) order ≡ None → length notes ≡ length order → length rs ≡ length ts
+pub run_kills : (history : List Step) (calls : List Call) → IsLegal history → Stands calls history → (awaited : Awaited) (wire : ℤ) (supply : Supply) (ts : List Task) (order : List ℕ) (notes : List Turned) (rs : List Outcome) → first_missing (length ts) order ≡ None → length notes ≡ length order → length rs ≡ length ts
     → StartedBy (sum_by (λ (n : Turned). n.started) notes) (Some []) (Some calls)
-    → ((j : ℕ) (t : Task) → slice_get ts j ≡ Some t → SendsOnly (MaySend (as_sent ids ts order j t)) (course [] order notes) j calls)
-    → ((j : ℕ) (t : Task) (r : Outcome) → slice_get ts j ≡ Some t → slice_get rs j ≡ Some r → OutcomeCaused awaited (course [] order notes) j calls wire (as_sent ids ts order j t) r)
-    → ((j : ℕ) (t : Task) (r : Outcome) → slice_get ts j ≡ Some t → slice_get rs j ≡ Some r → IsPlayed (as_sent ids ts order j t) (turns_done j order notes) (pends_last j order notes) r)
+    → ((j : ℕ) (t : Task) → slice_get ts j ≡ Some t → SendsOnly (MaySend (supply_of supply ts order j) (as_sent supply.ids ts order j t)) (course [] order notes) j calls)
+    → ((j : ℕ) (t : Task) (r : Outcome) → slice_get ts j ≡ Some t → slice_get rs j ≡ Some r → OutcomeCaused awaited (course [] order notes) j calls wire (supply_of supply ts order j) (as_sent supply.ids ts order j t) r)
+    → ((j : ℕ) (t : Task) (r : Outcome) → slice_get ts j ≡ Some t → slice_get rs j ≡ Some r → IsPlayed (as_sent supply.ids ts order j t) (turns_done j order notes) (pends_last j order notes) r)
     → (i place : ℕ) (call : Call) (x : ℤ) → slice_get calls place ≡ Some call → KillsIt (fields call.command) x → IsOf (places_of (course [] order notes) i) place ⊎ (IsOpenedIn calls history (places_of (course [] order notes) i) x → ⊥)
-run_kills history calls legal stands awaited wire ids ts order notes rs named abreast counted started sends caused played i place call x there kills =
+run_kills history calls legal stands awaited wire supply ts order notes rs named abreast counted started sends caused played i place call x there kills =
     let c : Course = course [] order notes in
     let all = started [] refl in
     let same : all.0 ≡ calls = same_some all.0 calls (sym all.1) in
@@ -170,7 +170,7 @@ run_kills history calls legal stands awaited wire ids ts order notes rs named ab
     let below = none_missing (length ts) turn.2.before j turn.2.after (ap (first_missing (length ts)) (sym turn.2.order_is) ∙ named) in
     let t = get_some ts j below in
     let r = get_some rs j (omega (arith, below, counted)) in
-    let opened = job_kills history calls legal stands awaited wire c j (as_sent ids ts order j t.0) r.0 (sends j t.0 t.1) (caused j t.0 r.0 t.1 r.1) (played j t.0 r.0 t.1 r.1) turn.1 place call x turn.2 there kills in
+    let opened = job_kills history calls legal stands awaited wire c j (supply_of supply ts order j) (as_sent supply.ids ts order j t.0) r.0 (sends j t.0 t.1) (caused j t.0 r.0 t.1 r.1) (played j t.0 r.0 t.1 r.1) turn.1 place call x turn.2 there kills in
     elim (cases_eq i j) [
       | inl same_job ↦ inl (subst (λ (n : ℕ). IsOf (places_of c n) place) (sym same_job) (sent_place c j turn.1 place turn.2))
       | inr other ↦ inr (λ o.

@@ -1,5 +1,5 @@
--- The store of a run refuses none of the commands of a follow of it that may begin.
-use Rattle.std.proofs.Common.{◌≡◌, ℕ, suc, ℤ, List, [], ◌∷◌, length, None, Some, ap, refl}
+-- The store of a run refuses none of the commands of a follow of it that may begin, none of a get of a whole file from collections with short names, and none that ends a valid put.
+use Rattle.std.proofs.Common.{◌≡◌, ◌≤◌, ◌+◌, ℕ, suc, ℤ, List, [], ◌∷◌, length, None, Some, ap, refl}
 use Rattle.std.specs.Prelude.{slice_get}
 use Rattle.std.specs.List.{sum_by}
 use Rattle.mg_bson.specs.Raw.{fields}
@@ -14,53 +14,99 @@ use Rattle.mg_store.specs.InMemory.{AreAsFates, AreKept}
 use Rattle.mg_store.specs.declared.fate.Fate.{Fate}
 use Rattle.mg_script.specs.Plan.{Task, follow, get, insert, put, tasks}
 use Rattle.mg_script.specs.Script.{first_missing}
+use Rattle.mg_script.specs.declared.outcome.Ended.{Ended}
+use Rattle.mg_script.specs.declared.outcome.Ended.TheVariants as ended
 use Rattle.mg_script.specs.declared.outcome.Outcome.{Outcome}
+use Rattle.mg_script.specs.declared.outcome.Outcome.TheVariants as outcome
 use Rattle.mg_script.specs.declared.outcome.Turned.{Turned}
 use Rattle.mg_script.specs.declared.script.Job.{Job}
-use Rattle.mg_players.specs.Causes.{Course, FollowCaused, OutcomeCaused, course}
-use Rattle.mg_jobs.specs.Completing.{JobWell, JobWellIn, NoneRefused}
+use Rattle.mg_players.specs.Causes.{Course, FollowCaused, GetCaused, GetStands, OutcomeCaused, PutEnds, course, has_opened, places_of}
+use Rattle.mg_jobs.specs.Completing.{EndsWell, HasShortFiles, JobWell, JobWellIn, NoneRefused, SendFresh, own_excuses, positions_at}
+use Rattle.mg_jobs.specs.Own.{IsHeard}
+use Rattle.mg_jobs.specs.PutLimits.{IsExcusedPut, IsValidPut}
 use Rattle.mg_players.specs.Counts.{StartedBy}
-use Rattle.mg_players.specs.Drawing.{as_sent}
+use Rattle.mg_players.specs.Drawing.{as_sent, supply_of}
+use Rattle.mg_players.specs.Gets.{GetTask, get_of}
+use Rattle.mg_players.specs.Kinds.{OfGet}
+use Rattle.mg_players.specs.Owned.{NamesNoOthers}
 use Rattle.mg_jobs.specs.Fated.{AreItsSteps}
-use Rattle.mg_players.specs.Progress.{FollowPlayed, IsPlayed, pends_last, turns_done}
+use Rattle.mg_players.specs.Progress.{FollowPlayed, IsPlayed, PutPlayed, pends_last, turns_done}
+use Rattle.mg_players.specs.Puts.{PutTask, Supply, put_of}
 use Rattle.mg_players.specs.Sends.{MaySend, SendsOnly}
 use Rattle.mg_jobs.proofs.FollowTaken.{follow_taken}
+use Rattle.mg_jobs.proofs.GetTaken.{get_taken}
+use Rattle.mg_jobs.proofs.Makers.{MakesCommand, sends_make}
 use Rattle.mg_jobs.proofs.Mild.{IsMildCommand}
-use Rattle.mg_jobs.proofs.Refusing.{TakesValid, job_ends_in}
+use Rattle.mg_jobs.proofs.PutTaken.{put_here}
+use Rattle.mg_jobs.proofs.Refusing.{PutsWell, TakesValid, job_ends_in, run_each}
 use Rattle.mg_jobs.proofs.RunKillers.{always, run_kills}
-use Rattle.mg_jobs.proofs.SaidTwice.{follow_both}
+use Rattle.mg_jobs.proofs.SaidTwice.{follow_both, put_both}
+use Rattle.mg_jobs.proofs.Whose.{owned, whose}
+
+-- ---- what a get sent
+
+-- what it sent as it stands, however it ended
+end_stands : (awaited : Awaited) (c : Course) (i : ℕ) (calls : List Call) (wire : ℤ) (g : GetTask) (bytes : ℕ) (end : Ended (Unit {0})) → GetCaused awaited c i calls wire g bytes end → GetStands c i calls wire g bytes
+end_stands awaited c i calls wire g bytes ended.Unfinished k = k.1
+end_stands awaited c i calls wire g bytes (ended.Gave x) k = has_opened k.1 k.2 k.3 k.5 k.6
+end_stands awaited c i calls wire g bytes (ended.Failed e) k = k.1
+
+get_stands : (awaited : Awaited) (c : Course) (i : ℕ) (calls : List Call) (wire : ℤ) (g : GetTask) (r : Outcome) → OfGet (λ bytes end. GetCaused awaited c i calls wire g (length bytes.items) end) r → (n : ℕ) × GetStands c i calls wire g n
+get_stands awaited c i calls wire g (outcome.Get bytes end) why = (length bytes.items, end_stands awaited c i calls wire g (length bytes.items) end why)
+get_stands awaited c i calls wire g (outcome.Insert end) why = absurd why
+get_stands awaited c i calls wire g (outcome.Follow opened said token alive closed) why = absurd why
+get_stands awaited c i calls wire g (outcome.Put end) why = absurd why
+
+-- ---- the jobs of a run
 
 module _ (history : List Kept) (fates : List Fate) (kept : AreKept 0 fates) (calls : List Call) (pended : List ℕ) (as_fates : AreAsFates history fates calls pended) (stands : Stands calls (steps_of history)) (alone : AreItsSteps history calls)
     (ruled : AreByRules history) (mild : (p : ℕ) (k : Kept) → slice_get history p ≡ Some k → IsMildCommand (fields k.command)) (legal : IsLegal (steps_of history)) (prompt : HoldsBackNone (steps_of history)) (own : NamesItsOwn calls)
-    (awaited : Awaited) (wire : ℤ) (ids : ℕ → List ℕ) (ts : List Task) (order : List ℕ) (notes : List Turned) (rs : List Outcome) (named : first_missing (length ts) order ≡ None) (abreast : length notes ≡ length order) (counted : length rs ≡ length ts)
-    (started : StartedBy (sum_by (λ (n : Turned). n.started) notes) (Some []) (Some calls)) (sends : (j : ℕ) (t : Task) → slice_get ts j ≡ Some t → SendsOnly (MaySend (as_sent ids ts order j t)) (course [] order notes) j calls)
-    (caused : (j : ℕ) (t : Task) (r : Outcome) → slice_get ts j ≡ Some t → slice_get rs j ≡ Some r → OutcomeCaused awaited (course [] order notes) j calls wire (as_sent ids ts order j t) r)
-    (played : (j : ℕ) (t : Task) (r : Outcome) → slice_get ts j ≡ Some t → slice_get rs j ≡ Some r → IsPlayed (as_sent ids ts order j t) (turns_done j order notes) (pends_last j order notes) r) where
+    (awaited : Awaited) (wire : ℤ) (supply : Supply) (ts : List Task) (order : List ℕ) (notes : List Turned) (rs : List Outcome) (named : first_missing (length ts) order ≡ None) (abreast : length notes ≡ length order) (counted : length rs ≡ length ts)
+    (started : StartedBy (sum_by (λ (n : Turned). n.started) notes) (Some []) (Some calls)) (sends : (j : ℕ) (t : Task) → slice_get ts j ≡ Some t → SendsOnly (MaySend (supply_of supply ts order j) (as_sent supply.ids ts order j t)) (course [] order notes) j calls)
+    (names : (j : ℕ) → NamesNoOthers calls (course [] order notes) j) (caused : (j : ℕ) (t : Task) (r : Outcome) → slice_get ts j ≡ Some t → slice_get rs j ≡ Some r → OutcomeCaused awaited (course [] order notes) j calls wire (supply_of supply ts order j) (as_sent supply.ids ts order j t) r)
+    (played : (j : ℕ) (t : Task) (r : Outcome) → slice_get ts j ≡ Some t → slice_get rs j ≡ Some r → IsPlayed (as_sent supply.ids ts order j t) (turns_done j order notes) (pends_last j order notes) r) where
   abbrev turns : Course
   turns = course [] order notes
 
-  takes : (i : ℕ) (t : Task) (r : Outcome) → SendsOnly (MaySend t) turns i calls → OutcomeCaused awaited turns i calls wire t r → IsPlayed t (turns_done i order notes) (pends_last i order notes) r → TakesValid turns i calls (steps_of history) t
-  takes i (follow on count start filter batch) r its why plays = λ small enough may.
+  takes : (i : ℕ) (supply-i : Supply) (t : Task) (r : Outcome) → SendsOnly (MaySend supply-i t) turns i calls → OutcomeCaused awaited turns i calls wire supply-i t r → IsPlayed t (turns_done i order notes) (pends_last i order notes) r → TakesValid turns i calls (steps_of history) t
+  takes i supply-i (follow on count start filter batch) r its why plays = λ small enough may.
       let k : ℕ = turns_done i order notes in
       always (NoneRefused turns i calls (steps_of history)) r
       (follow_both (λ opened said token alive closed. FollowCaused awaited turns i count calls wire on start filter batch opened said.items token alive closed) (λ opened said token alive closed. FollowPlayed opened closed count (length said.items) alive k (pends_last i order notes))
       (λ opened said token alive closed. NoneRefused turns i calls (steps_of history))
       (λ opened said token alive closed by comes.
       follow_taken history fates kept calls pended as_fates stands alone ruled mild legal prompt turns i on start filter batch small may own its
-      (λ place call x there kills. run_kills (steps_of history) calls legal stands awaited wire ids ts order notes rs named abreast counted started sends caused played i place call x there kills)
+      (λ place call x there kills. run_kills (steps_of history) calls legal stands awaited wire supply ts order notes rs named abreast counted started sends caused played i place call x there kills)
       awaited count wire opened closed said.items token alive k (pends_last i order notes) by comes enough) r why plays)
-  takes i (insert ns docs) r its why plays = tt
-  takes i (put db bucket name id chunk pieces) r its why plays = tt
-  takes i (get db bucket id read) r its why plays = tt
+  takes i supply-i (insert ns docs) r its why plays = tt
+  takes i supply-i (put db bucket name id chunk pieces) r its why plays = tt
+  takes i supply-i (get db bucket id read) r its why plays = λ may bytes whole.
+      let g : GetTask = get_of db bucket id read in
+      let s = get_stands awaited turns i calls wire g r why in
+      get_taken history fates kept calls pended as_fates stands alone ruled mild legal prompt turns i g wire s.0 s.1 (owned calls order notes abreast started i) (whose calls order notes abreast started) names its may bytes whole
 
   -- So it is for each follow of the run.
-  run_takes : (i : ℕ) (t : Task) (r : Outcome) → slice_get ts i ≡ Some t → slice_get rs i ≡ Some r → TakesValid turns i calls (steps_of history) (as_sent ids ts order i t)
-  run_takes i t r ht hr = takes i (as_sent ids ts order i t) r (sends i t ht) (caused i t r ht hr) (played i t r ht hr)
+  run_takes : (i : ℕ) (t : Task) (r : Outcome) → slice_get ts i ≡ Some t → slice_get rs i ≡ Some r → TakesValid turns i calls (steps_of history) (as_sent supply.ids ts order i t)
+  run_takes i t r ht hr = takes i (supply_of supply ts order i) (as_sent supply.ids ts order i t) r (sends i t ht) (caused i t r ht hr) (played i t r ht hr)
+
+  -- So it is for each valid put.
+  puts : (i : ℕ) (supply-i : Supply) (t : Task) (r : Outcome) → OutcomeCaused awaited turns i calls wire supply-i t r → IsPlayed t (turns_done i order notes) (pends_last i order notes) r → PutsWell (own_excuses turns i calls t) turns i calls (steps_of history) t r
+  puts i supply-i (follow on count start filter batch) r why plays = tt
+  puts i supply-i (insert ns docs) r why plays = tt
+  puts i supply-i (put db bucket name id chunk pieces) r why plays =
+      let t : PutTask = put_of db bucket name id chunk pieces in
+      let k : ℕ = turns_done i order notes in
+      put_both (λ end. PutEnds awaited turns i calls wire supply-i t end) (λ end. PutPlayed end (length pieces) k (pends_last i order notes))
+      (λ end. HasShortFiles t.at → IsValidPut t → SendFresh (positions_at calls (places_of turns i)) (steps_of history) → length pieces + 2 ≤ k → EndsWell (IsExcusedPut (IsHeard turns i calls) t) end)
+      (λ end ends comes may valid fresh enough.
+      put_here history fates kept calls pended as_fates stands alone ruled mild legal prompt (run_each MakesCommand sends_make history calls alone stands supply ts order notes named abreast started sends) own awaited turns i wire supply-i t may valid fresh end k (pends_last i order notes) ends comes enough)
+      r why plays
+  puts i supply-i (get db bucket id read) r why plays = tt
 
   -- and each job ends so in its history that ends well over a prompt link
-  pub run_ends_in : (i : ℕ) (t : Task) (r : Outcome) → slice_get ts i ≡ Some t → slice_get rs i ≡ Some r → JobWell turns i calls (as_sent ids ts order i t) r → JobWellIn turns i calls (steps_of history) (as_sent ids ts order i t) r
+  pub run_ends_in : (i : ℕ) (t : Task) (r : Outcome) → slice_get ts i ≡ Some t → slice_get rs i ≡ Some r → JobWell turns i calls (as_sent supply.ids ts order i t) r → JobWellIn turns i calls (steps_of history) (as_sent supply.ids ts order i t) r
   run_ends_in i t r ht hr well =
-      job_ends_in history fates kept calls pended as_fates stands ruled mild legal prompt awaited wire turns i (as_sent ids ts order i t) r (sends i t ht) (caused i t r ht hr) (played i t r ht hr) well (run_takes i t r ht hr)
+      job_ends_in history fates kept calls pended as_fates stands ruled mild legal prompt awaited wire turns i (supply_of supply ts order i) (as_sent supply.ids ts order i t) r (sends i t ht) (caused i t r ht hr) (played i t r ht hr) well (run_takes i t r ht hr) (puts i (supply_of supply ts order i) (as_sent supply.ids ts order i t) r (caused i t r ht hr) (played i t r ht hr))
 
 -- there is one task for each job
 pub tasks_counted : (jobs : List Job) → length (tasks jobs) ≡ length jobs

@@ -7,9 +7,10 @@ use Rattle.mg_link.specs.Link.{Awaited, LogTold}
 use Rattle.mg_link.specs.Log.{Call}
 use Rattle.mg_players.specs.Counts.{OthersStay, is_held, shown}
 use Rattle.mg_players.specs.Plays.{Moves}
-use Rattle.mg_players.specs.Drawing.{sent_from}
+use Rattle.mg_players.specs.Drawing.{sent_from, supply_from}
 use Rattle.mg_players.specs.Headline.{Turns, task_of}
 use Rattle.mg_players.specs.Playing.{job_ticket}
+use Rattle.mg_players.specs.Puts.{Supply}
 use Rattle.mg_players.specs.Runs.{Goes}
 use Rattle.mg_players.specs.Telling.{TurnTells}
 use Rattle.mg_script.specs.Plan.{Task}
@@ -36,11 +37,12 @@ module _ (old old' new new' : Awaited) (log log' : LogTold) where
       (r.0, r.1, record { place = r.2.place; placed = r.2.placed; owner = r.2.owner; plays = same_player new new' r.0 p' r.2.owner r.2.place after r.2.plays; passes = r.2.passes })
 
   module _ (wire : ℤ) where
-    tells_agree : (so : Task → Type 0) (p p' : Player) (next : Moves) → Agree (job_ticket p) old old' → Agree (job_ticket p') new new' → TurnTells so old' new log log' wire p p' next → TurnTells so old new' log log' wire p p' next
-    tells_agree so p p' next before after turn calls calls' is is' ids n may q at at' placed o plays told =
-        let t : Task = sent_from ids n (task_of p) in
-        let r = turn calls calls' is is' ids n may q at at' placed o (same_player old old' calls p o at before plays) (job_later t old old' calls calls wire q p at (keeps_same calls) (onward_refl calls nobody) before told) in
-        record { longer = r.longer; places = r.places; tells = job_later t new new' calls' calls' wire r.places p' at' (keeps_same calls') (onward_refl calls' nobody) after r.tells; extends = r.extends; adds = r.adds }
+    tells_agree : (so : Supply → Task → Type 0) (p p' : Player) (next : Moves) → Agree (job_ticket p) old old' → Agree (job_ticket p') new new' → TurnTells so old' new log log' wire p p' next → TurnTells so old new' log log' wire p p' next
+    tells_agree so p p' next before after turn calls calls' is is' supply n may q at at' placed o plays told =
+        let own : Supply = supply_from supply n in
+        let t : Task = sent_from supply.ids n (task_of p) in
+        let r = turn calls calls' is is' supply n may q at at' placed o (same_player old old' calls p o at before plays) (job_later own t old old' calls calls wire q p at (keeps_same calls) (onward_refl calls nobody) before told) in
+        record { longer = r.longer; places = r.places; tells = job_later own t new new' calls' calls' wire r.places p' at' (keeps_same calls') (onward_refl calls' nobody) after r.tells; extends = r.extends; adds = r.adds }
 
 -- ---- the tickets of a turn
 
@@ -91,7 +93,7 @@ module _ (held : Option ℕ) (began new : Awaited) (others : OthersStay held beg
       only = only_shown;
     }
 
-pub goes_shown : (so : Task → Type 0) (held : Option ℕ) (began new : Awaited) (log log' : LogTold) (wire : ℤ) (p p' : Player) → job_ticket p ≡ held → OthersStay held began new → Goes so (shown held began began) (shown held began new) log log' wire p p' → Goes so began new log log' wire p p'
+pub goes_shown : (so : Supply → Task → Type 0) (held : Option ℕ) (began new : Awaited) (log log' : LogTold) (wire : ℤ) (p p' : Player) → job_ticket p ≡ held → OthersStay held began new → Goes so (shown held began began) (shown held began new) log log' wire p p' → Goes so began new log log' wire p p'
 goes_shown so held began new log log' wire p p' mine others goes =
     let t = subst (λ (o : Option ℕ). Tickets (shown held began began) (shown held began new) o (job_ticket p')) mine goes.tickets in
     let before = λ (m : ℕ) (e : job_ticket p ≡ Some m). shown_held held began began m (sym mine ∙ e) in

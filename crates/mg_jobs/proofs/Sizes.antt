@@ -167,7 +167,7 @@ events_few : (es : List Fields) → AreModest es → 40 * length es ≤ bytes_of
 events_few [] modest = omega arith
 events_few (e ∷ es) modest = let rest = events_few es modest.1 in let some = modest.0.some in omega (arith, rest, some)
 
-events_long : (n : ℕ) (es : List Fields) → n + length es ≤ 1000000 → length (items_bytes n (documents_of_items es)) ≤ 8 * length es + bytes_of es
+pub events_long : (n : ℕ) (es : List Fields) → n + length es ≤ 1000000 → length (items_bytes n (documents_of_items es)) ≤ 8 * length es + bytes_of es
 events_long n [] less = omega arith
 events_long n (e ∷ es) less =
     let rest = events_long (suc n) es (omega (arith, less)) in
@@ -211,10 +211,10 @@ batch_long name events place b =
     let short = b.short in
     omega (arith, a, c, e, t, few, short)
 
-name_long : (space : Space) → length space.db ≤ max_name → length space.coll ≤ max_name → length (value_bytes (string (full_name space))) ≤ 131078
+pub name_long : (space : Space) → length space.db ≤ max_name → length space.coll ≤ max_name → length (value_bytes (string (full_name space))) ≤ 131078
 name_long space db coll = let a = text_long (full_name space) in let b = length-append space.db (46 ∷ space.coll) in omega (arith, a, b, db, coll)
 
-id_long : (id : ℤ) → length (value_bytes (int64 id)) ≡ 8
+pub id_long : (id : ℤ) → length (value_bytes (int64 id)) ≡ 8
 unfolding le64
 id_long id = omega arith
 
@@ -229,7 +229,7 @@ cursor_long id space name events place db coll b =
     let g = batch_long name events place b in
     omega (arith, a, c, d, e, f, g)
 
-ok_long : length (fields_bytes ("ok" ⇒ int32 (pos 1) ⨾ empty)) ≤ 10
+pub ok_long : length (fields_bytes ("ok" ⇒ int32 (pos 1) ⨾ empty)) ≤ 10
 unfolding le32
 ok_long = omega arith
 

@@ -1,4 +1,4 @@
--- The documents that the store holds are short, whatever mild commands it took.
+-- The documents that the store holds are short and flat, whatever mild commands it took.
 use Rattle.std.proofs.Common.{◌≡◌, ◌≤◌, ◌++◌, ℕ, suc, zero, ℤ, pos, Bool, true, false, List, [], ◌∷◌, length, take, Option, Some, None, Result, Ok, Err, refl, sym, ap, ◌∙◌, subst, inl, inr}
 use Rattle.std.specs.Prelude.{if◌then◌else◌, codes, nat_le, option_map, unwrap_or}
 use Rattle.std.specs.List.{filter}
@@ -24,24 +24,28 @@ use Rattle.mg_jobs.proofs.Mild.{IsMild, IsMildCommand}
 
 -- ---- documents
 
+-- as small and as flat as one that is stored
+abbrev pub IsStored : Fields → Type 0
+IsStored d = (length (bytes d) ≤ max_document) × (levels d ≤ max_stored_levels)
+
 abbrev pub AreShort : List Fields → Type 0
 AreShort [] = Unit {0}
-AreShort (d ∷ ds) = (length (bytes d) ≤ max_document) × AreShort ds
+AreShort (d ∷ ds) = IsStored d × AreShort ds
 
 short_on : (ds es : List Fields) → AreShort ds → AreShort es → AreShort (ds ++ es)
 short_on [] es a b = b
 short_on (d ∷ ds) es a b = (a.0, short_on ds es a.1 b)
 
-short_first : (n : ℕ) (ds : List Fields) → AreShort ds → AreShort (take n ds)
+pub short_first : (n : ℕ) (ds : List Fields) → AreShort ds → AreShort (take n ds)
 short_first zero ds a = tt
 short_first (suc n) [] a = tt
 short_first (suc n) (d ∷ ds) a = (a.0, short_first n ds a.1)
 
-matching_by : (b : Bool) (d : Fields) (ds : List Fields) → length (bytes d) ≤ max_document → AreShort ds → AreShort (if b then d ∷ ds else ds)
+matching_by : (b : Bool) (d : Fields) (ds : List Fields) → IsStored d → AreShort ds → AreShort (if b then d ∷ ds else ds)
 matching_by true d ds few a = (few, a)
 matching_by false d ds few a = a
 
-matching_short : (conditions : List Condition) (ds : List Fields) → AreShort ds → AreShort (filter (matches conditions) ds)
+pub matching_short : (conditions : List Condition) (ds : List Fields) → AreShort ds → AreShort (filter (matches conditions) ds)
 matching_short conditions [] a = tt
 matching_short conditions (d ∷ ds) a = matching_by (matches conditions d) d (filter (matches conditions) ds) a.0 (matching_short conditions ds a.1)
 
@@ -101,7 +105,7 @@ inserting_short space ordered index place there [] = tt
 inserting_short space ordered index place there (d ∷ ds) =
     taken_by (accept there d) (λ id. with_document d (insert_entry (suc place) space id d) (inserting space ordered (suc index) (suc place) (there ++ d ∷ []) ds))
     (λ code. with_error index code (if ordered then no_more else inserting space ordered (suc index) place there ds))
-    (λ id is. ((accepted there d id is).few, inserting_short space ordered (suc index) (suc place) (there ++ d ∷ []) ds))
+    (λ id is. (((accepted there d id is).few, (accepted there d id is).flat), inserting_short space ordered (suc index) (suc place) (there ++ d ∷ []) ds))
     (λ code. taken_cut ordered (inserting space ordered (suc index) place there ds) (inserting_short space ordered (suc index) place there ds))
 
 -- ---- collections

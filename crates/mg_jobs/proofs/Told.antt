@@ -32,7 +32,7 @@ use Rattle.mg_ops.proofs.InsertCauses.{insert_waits}
 use Rattle.mg_players.specs.Causes.{AllCaused, AllSentIn, ClosedBy, CloseCaused, Course, FallsAt, FollowCaused, KillsLast, OpenStands, OpenCaused, OpenWaits, OutcomeCaused, SentIn, SentNoneBehind, at_rest, commands_at, course, in_call, in_closing, places_from, places_in, sent_at, sent_since}
 use Rattle.mg_players.specs.Counts.{HoldsNewest, NewestAt, StartedBy}
 use Rattle.mg_ops.specs.Drawn.{AreLater, with_ids}
-use Rattle.mg_players.specs.Drawing.{DrawsAs, HaveDrawn, JobHadTurn, as_sent, drawn_in, first_id, has_turn, sent_from}
+use Rattle.mg_players.specs.Drawing.{DrawsAt, HaveDrawn, JobHadTurn, as_sent, drawn_in, first_id, has_turn, sent_from, supply_from, supply_of}
 use Rattle.mg_players.specs.Follows.{Followed, FollowedFrom, HasGiven, IsArgsFor, IsUnfinished, events_of, filter_in, token_at}
 use Rattle.mg_players.proofs.GetCausing.{get_caused}
 use Rattle.mg_players.specs.Gets.{sought}
@@ -41,6 +41,7 @@ use Rattle.mg_script.specs.Plan.{Begin, Task, begin, pieces}
 use Rattle.mg_players.specs.Playing.{end_of, job_ticket}
 use Rattle.mg_players.specs.Progress.{AllAt, FollowAt, HoldsIf, InsertAt, IsAt, IsOpen, calls_of, came, pends_last, turns_done}
 use Rattle.mg_players.specs.Runs.{MayAllGo, Goes, has_ended}
+use Rattle.mg_players.specs.Owned.{AllNameOwn}
 use Rattle.mg_players.specs.Sends.{AllSendOnly, MaySend, SendsOnly}
 use Rattle.mg_players.specs.Plays.{Extends, IsNow, Moves, MovesTo, Places}
 use Rattle.mg_players.specs.Telling.{AllSent, AllTell, FollowTold, InsertTells, IsOpened, JobTells, JobTold, TellsEnd, TurnTells, kept, number_of, landing_places}
@@ -58,13 +59,14 @@ use Rattle.mg_players.specs.declared.follow.Stage.TheVariants as stage
 use Rattle.mg_players.specs.declared.player.Player.{Player}
 use Rattle.mg_players.specs.declared.player.Player.TheVariants as player
 use Rattle.mg_players.proofs.Apart.{stays, which}
-use Rattle.mg_players.proofs.Knowing.{get_length, know_first, knowing_turn, one_more, place_here, place_other, take_next}
+use Rattle.mg_players.proofs.Knowing.{get_length, know_first, knowing_turn, one_more, owners_first, place_here, place_other, take_next}
 use Rattle.mg_players.proofs.Commands.{call_falls_so, falls_below}
 use Rattle.mg_players.proofs.Drawing.{draws_as, id_had, id_own, turn_other}
 use Rattle.mg_jobs.proofs.Identified.{calls_identified, honest_over, opened_well}
 use Rattle.mg_players.proofs.InsertTelling.{ends_of, ends_sent}
 use Rattle.mg_gridfs.proofs.Fronts.{nobody_onward}
-use Rattle.mg_players.specs.Puts.{writes}
+use Rattle.mg_players.specs.Puts.{IsMoment, Supply, writes}
+use Rattle.mg_jobs.proofs.OwnCursors.{own_first, own_turn}
 use Rattle.mg_jobs.proofs.PutTold.{put_outcome}
 use Rattle.mg_jobs.proofs.Filed.{get_filed, put_filed}
 use Rattle.mg_players.proofs.JobTelling.{first_tells, job_later, job_of_others, number_at}
@@ -111,20 +113,20 @@ module _ (begun : ℕ) (order : List ℕ) (notes : List Turned) (j : ℕ) (note 
       }
 
   -- another job's turn
-  job_other : (ids : ℕ → List ℕ) (ts : List Task) (old new : Awaited) (calls calls' : List Call) (wire : ℤ) (i : ℕ) (p : Player) (at : Option ℕ) → (i ≡ j → ⊥) → length order ≡ length notes → length calls ≡ begun + sum_by (λ (t : Turned). t.started) notes → Keeps calls calls' → Onward calls calls' nobody → ((m : ℕ) → job_ticket p ≡ Some m → new m ≡ old m) → JobHadTurn (has_turn i order) p
-      → JobTold ids (first_id ts order i) old calls wire now i p at → JobTold ids (first_id ts (order ++ j ∷ []) i) new calls' wire then i p at
-  job_other ids ts old new calls calls' wire i p at ne abreast count keeps onward same had t =
+  job_other : (supply : Supply) (ts : List Task) (old new : Awaited) (calls calls' : List Call) (wire : ℤ) (i : ℕ) (p : Player) (at : Option ℕ) → (i ≡ j → ⊥) → length order ≡ length notes → length calls ≡ begun + sum_by (λ (t : Turned). t.started) notes → Keeps calls calls' → Onward calls calls' nobody → ((m : ℕ) → job_ticket p ≡ Some m → new m ≡ old m) → JobHadTurn (has_turn i order) p
+      → JobTold supply (first_id ts order i) old calls wire now i p at → JobTold supply (first_id ts (order ++ j ∷ []) i) new calls' wire then i p at
+  job_other supply ts old new calls calls' wire i p at ne abreast count keeps onward same had t =
       let n : ℕ = first_id ts order i in
       let n' : ℕ = first_id ts (order ++ j ∷ []) i in
-      let on = sends_other (MaySend (sent_from ids n (task_of p))) begun order notes j note abreast calls calls' count i ne keeps t.sends in
+      let on = sends_other (MaySend (supply_from supply n) (sent_from supply.ids n (task_of p))) begun order notes j note abreast calls calls' count i ne keeps t.sends in
       record {
         places = t.places;
-        tells = job_of_others ids n n' new calls' wire t.places p at (has_turn i order) had (λ turn. id_had ts i j order turn) (job_later (sent_from ids n (task_of p)) old new calls calls' wire t.places p at keeps onward same t.tells);
+        tells = job_of_others supply n n' new calls' wire t.places p at (has_turn i order) had (λ turn. id_had ts i j order turn) (job_later (supply_from supply n) (sent_from supply.ids n (task_of p)) old new calls calls' wire t.places p at keeps onward same t.tells);
         sent = all_later i t.places (number_of p) ne abreast t.sent;
         sends = record {
           each = λ k place call sent there.
               let turn : has_turn i order ≡ true = sym (turn_other i j order ne) ∙ sent_had then i k place sent in
-              subst (λ (m : ℕ). MaySend (sent_from ids m (task_of p)) (fields call.command)) (sym (id_had ts i j order turn)) (on.each k place call sent there);
+              subst (λ (m : ℕ). MaySend (supply_from supply m) (sent_from supply.ids m (task_of p)) (fields call.command)) (sym (id_had ts i j order turn)) (on.each k place call sent there);
         };
       }
 
@@ -178,25 +180,25 @@ module _ (begun : ℕ) (order : List ℕ) (notes : List Turned) (j : ℕ) (note 
   counts_at n over (inl is) quiet = inl is
   counts_at n over (inr ends) quiet = inr (quiet ends)
 
-  job_turn : (ids given : ℕ → List ℕ) (ts : List Task) (old new : Awaited) (log log' : LogTold) (calls calls' : List Call) (wire : ℤ) (p p' : Player) (next : Moves) (at at' : Option ℕ) (m : ℕ) (last : Bool) → log ≡ Some calls → log' ≡ Some calls' → length notes ≡ length order → length calls ≡ begun + sum_by (λ (t : Turned). t.started) notes → length calls' ≡ length calls + note.started
-      → IsAt m p (turns_done j order notes) last → (has_ended p ≡ true → note.started ≡ 0) → AreLater ids (drawn_in ts order) given → JobHadTurn (has_turn j order) p → IsSameTask p p' → TurnTells (DrawsAs given p) old new log log' wire p p' next → MovesTo next calls calls' at at' → (o : Owner) → Plays old calls p o at → JobTold ids (first_id ts order j) old calls wire now j p at → JobTold ids (first_id ts (order ++ j ∷ []) j) new calls' wire then j p' at'
-  job_turn ids given ts old new log log' calls calls' wire p p' next at at' m last is is' abreast count more is_at quiet stands had task tells placed o plays t =
+  job_turn : (supply : Supply) (given : ℕ → List ℕ) (moment : ℤ) (its : IsMoment supply.moment moment) (ts : List Task) (old new : Awaited) (log log' : LogTold) (calls calls' : List Call) (wire : ℤ) (p p' : Player) (next : Moves) (at at' : Option ℕ) (m : ℕ) (last : Bool) → log ≡ Some calls → log' ≡ Some calls' → length notes ≡ length order → length calls ≡ begun + sum_by (λ (t : Turned). t.started) notes → length calls' ≡ length calls + note.started
+      → IsAt m p (turns_done j order notes) last → (has_ended p ≡ true → note.started ≡ 0) → AreLater supply.ids (drawn_in ts order) given → JobHadTurn (has_turn j order) p → IsSameTask p p' → TurnTells (DrawsAt given moment p) old new log log' wire p p' next → MovesTo next calls calls' at at' → (o : Owner) → Plays old calls p o at → JobTold supply (first_id ts order j) old calls wire now j p at → JobTold supply (first_id ts (order ++ j ∷ []) j) new calls' wire then j p' at'
+  job_turn supply given moment its ts old new log log' calls calls' wire p p' next at at' m last is is' abreast count more is_at quiet stands had task tells placed o plays t =
       let n : ℕ = first_id ts order j in
-      let r = tells calls calls' is is' ids n (draws_as ids given ts order j p stands had) t.places at at' placed o plays t.tells in
+      let r = tells calls calls' is is' supply n (draws_as supply given ts order j p stands had, its) t.places at at' placed o plays t.tells in
       let counts = counts_at (number_of p) (has_ended p) (number_at m p (turns_done j order notes) last is_at) quiet in
-      let sends : SendsOnly (MaySend (sent_from ids n (task_of p))) then j calls' = sends_turn (MaySend (sent_from ids n (task_of p))) begun order notes j note (sym abreast) calls calls' count r.adds t.sends in
-      subst (λ (k : ℕ). JobTold ids k new calls' wire then j p' at') (sym (id_own ts j order))
+      let sends : SendsOnly (MaySend (supply_from supply n) (sent_from supply.ids n (task_of p))) then j calls' = sends_turn (MaySend (supply_from supply n) (sent_from supply.ids n (task_of p))) begun order notes j note (sym abreast) calls calls' count r.adds t.sends in
+      subst (λ (k : ℕ). JobTold supply k new calls' wire then j p' at') (sym (id_own ts j order))
       (record {
         places = r.places;
-        tells = subst (λ (u : Task). JobTells new calls' wire r.places (sent_from ids n u) p' at') (sym task) r.tells;
+        tells = subst (λ (u : Task). JobTells new calls' wire r.places (supply_from supply n) (sent_from supply.ids n u) p' at') (sym task) r.tells;
         sent = all_now abreast (length calls) (length calls') (number_of p) count more counts t.places r.places (number_of p') t.sent r.extends;
-        sends = subst (λ (u : Task). SendsOnly (MaySend (sent_from ids n u)) then j calls') (sym task) sends;
+        sends = subst (λ (u : Task). SendsOnly (MaySend (supply_from supply n) (sent_from supply.ids n u)) then j calls') (sym task) sends;
       })
 
 -- A run tells on behind the turn of one of its jobs.
-module _ (given : ℕ → List ℕ) (old new : Awaited) (log log' : LogTold) (wire : ℤ) (players : List Player) (k : ℕ) (p p' : Player) (at : slice_get players k ≡ Some p) (apart : MayAllGo old wire players) (goes : Goes (DrawsAs given p) old new log log' wire p p') (note : Turned) (started : StartedBy note.started log log') (keeps : Stays log log') (quiet : has_ended p ≡ true → note.started ≡ 0) (holds : HoldsNewest (job_ticket p) (job_ticket p') old new log log') where
-  pub all_turn : (ids : ℕ → List ℕ) (begun : LogTold) (ts : List Task) (order : List ℕ) (notes : List Turned) → length order ≡ length notes → AllAt ts order notes players → HaveDrawn ids given ts order players → AllTell ids old begun log wire ts order notes players → AllTell ids new begun log' wire ts (order ++ k ∷ []) (notes ++ note ∷ []) (slice_set players k p')
-  all_turn ids begun ts order notes abreast all drawn tell calls told =
+module _ (given : ℕ → List ℕ) (moment : ℤ) (old new : Awaited) (log log' : LogTold) (wire : ℤ) (players : List Player) (k : ℕ) (p p' : Player) (at : slice_get players k ≡ Some p) (apart : MayAllGo old wire players) (goes : Goes (DrawsAt given moment p) old new log log' wire p p') (note : Turned) (started : StartedBy note.started log log') (keeps : Stays log log') (quiet : has_ended p ≡ true → note.started ≡ 0) (holds : HoldsNewest (job_ticket p) (job_ticket p') old new log log') where
+  pub all_turn : (supply : Supply) → IsMoment supply.moment moment → (begun : LogTold) (ts : List Task) (order : List ℕ) (notes : List Turned) → length order ≡ length notes → AllAt ts order notes players → HaveDrawn supply.ids given ts order players → AllTell supply old begun log wire ts order notes players → AllTell supply new begun log' wire ts (order ++ k ∷ []) (notes ++ note ∷ []) (slice_set players k p')
+  all_turn supply its begun ts order notes abreast all drawn tell calls told =
       let before = tell calls told in
       let s = started before.0 before.1 in
       let on = keeps before.0 before.1 in
@@ -218,13 +220,13 @@ module _ (given : ℕ → List ℕ) (old new : Awaited) (log log' : LogTold) (wi
           each = λ i t a ht ha. elim (which old new log log' wire players k p p' at apart goes i a ha) [
             | inl mine ↦
                 let here : slice_get ts k ≡ Some t = ap (slice_get ts) (sym mine.0) ∙ ht in
-                subst (λ (x : Option ℕ). JobTold ids (first_id ts (order ++ k ∷ []) i) new s.0 wire (course calls (order ++ k ∷ []) (notes ++ note ∷ [])) i a x) (sym (place_here old new log log' wire players k p p' at apart goes on_log.place before.2.places i mine.0))
-                (subst (λ (x : Player). JobTold ids (first_id ts (order ++ k ∷ []) i) new s.0 wire (course calls (order ++ k ∷ []) (notes ++ note ∷ [])) i x on_log.place) mine.1
-                (subst (λ (m : ℕ). JobTold ids (first_id ts (order ++ k ∷ []) m) new s.0 wire (course calls (order ++ k ∷ []) (notes ++ note ∷ [])) m p' on_log.place) (sym mine.0)
-                (job_turn (length calls) order notes k note ids given ts old new log log' before.0 s.0 wire p p' goes.next (before.2.places k) on_log.place (calls_of t) _ before.1 s.1 (sym abreast) count more (all k t p here at) quiet drawn.stands (drawn.each k p at) goes.task goes.told on_log.placed here_knows.owner here_knows.plays (before.3.each k t p here at))))
+                subst (λ (x : Option ℕ). JobTold supply (first_id ts (order ++ k ∷ []) i) new s.0 wire (course calls (order ++ k ∷ []) (notes ++ note ∷ [])) i a x) (sym (place_here old new log log' wire players k p p' at apart goes on_log.place before.2.places i mine.0))
+                (subst (λ (x : Player). JobTold supply (first_id ts (order ++ k ∷ []) i) new s.0 wire (course calls (order ++ k ∷ []) (notes ++ note ∷ [])) i x on_log.place) mine.1
+                (subst (λ (m : ℕ). JobTold supply (first_id ts (order ++ k ∷ []) m) new s.0 wire (course calls (order ++ k ∷ []) (notes ++ note ∷ [])) m p' on_log.place) (sym mine.0)
+                (job_turn (length calls) order notes k note supply given moment its ts old new log log' before.0 s.0 wire p p' goes.next (before.2.places k) on_log.place (calls_of t) _ before.1 s.1 (sym abreast) count more (all k t p here at) quiet drawn.stands (drawn.each k p at) goes.task goes.told on_log.placed here_knows.owner here_knows.plays (before.3.each k t p here at))))
             | inr other ↦
-                subst (λ (x : Option ℕ). JobTold ids (first_id ts (order ++ k ∷ []) i) new s.0 wire (course calls (order ++ k ∷ []) (notes ++ note ∷ [])) i a x) (sym (place_other old new log log' wire players k p p' at apart goes on_log.place before.2.places i other.0))
-                (job_other (length calls) order notes k note ids ts old new before.0 s.0 wire i a (before.2.places i) other.0 abreast count kept_calls onward (stays old new log log' wire players k p p' at apart goes i a other.0 other.1) (drawn.each i a other.1) (before.3.each i t a ht other.1))
+                subst (λ (x : Option ℕ). JobTold supply (first_id ts (order ++ k ∷ []) i) new s.0 wire (course calls (order ++ k ∷ []) (notes ++ note ∷ [])) i a x) (sym (place_other old new log log' wire players k p p' at apart goes on_log.place before.2.places i other.0))
+                (job_other (length calls) order notes k note supply ts old new before.0 s.0 wire i a (before.2.places i) other.0 abreast count kept_calls onward (stays old new log log' wire players k p p' at apart goes i a other.0 other.1) (drawn.each i a other.1) (before.3.each i t a ht other.1))
           ];
           newest = λ i a m place ha e there. elim (which old new log log' wire players k p p' at apart goes i a ha) [
             | inl mine ↦
@@ -236,33 +238,34 @@ module _ (given : ℕ → List ℕ) (old new : Awaited) (log log' : LogTold) (wi
                 newest_other (length calls) order notes k note abreast i place other.0 (before.3.newest i a m place other.1 e (sym (stays old new log log' wire players k p p' at apart goes i a other.0 other.1 m e) ∙ there))
           ];
         },
+        own_turn before.0 s.0 (length calls) order notes k note abreast count more before.2.owners here_knows.owner on_log.owner here_knows.there on_log.passes before.2.apart before.4,
       )
 
 -- the same run over the same wire version, by another name
-pub tell_as : (ids : ℕ → List ℕ) (awaited : Awaited) (begun log : LogTold) (wire wire' : ℤ) (ts : List Task) (order : List ℕ) (notes : List Turned) (players : List Player) → wire' ≡ wire → AllTell ids awaited begun log wire ts order notes players → AllTell ids awaited begun log wire' ts order notes players
-tell_as ids awaited begun log wire wire' ts order notes players same tell = subst (λ (w : ℤ). AllTell ids awaited begun log w ts order notes players) (sym same) tell
+pub tell_as : (supply : Supply) (awaited : Awaited) (begun log : LogTold) (wire wire' : ℤ) (ts : List Task) (order : List ℕ) (notes : List Turned) (players : List Player) → wire' ≡ wire → AllTell supply awaited begun log wire ts order notes players → AllTell supply awaited begun log wire' ts order notes players
+tell_as supply awaited begun log wire wire' ts order notes players same tell = subst (λ (w : ℤ). AllTell supply awaited begun log w ts order notes players) (sym same) tell
 
 -- one number of the order more was gone through
-pub tell_next : (ids : ℕ → List ℕ) (awaited : Awaited) (begun log : LogTold) (wire : ℤ) (ts : List Task) (order : List ℕ) (k n : ℕ) (notes : List Turned) (players : List Player) → slice_get order k ≡ Some n → AllTell ids awaited begun log wire ts (take k order ++ n ∷ []) notes players → AllTell ids awaited begun log wire ts (take (k + 1) order) notes players
-tell_next ids awaited begun log wire ts order k n notes players there tell = subst (λ (ns : List ℕ). AllTell ids awaited begun log wire ts ns notes players) (sym (take_next order k n there) ∙ ap (λ m. take m order) (one_more k)) tell
+pub tell_next : (supply : Supply) (awaited : Awaited) (begun log : LogTold) (wire : ℤ) (ts : List Task) (order : List ℕ) (k n : ℕ) (notes : List Turned) (players : List Player) → slice_get order k ≡ Some n → AllTell supply awaited begun log wire ts (take k order ++ n ∷ []) notes players → AllTell supply awaited begun log wire ts (take (k + 1) order) notes players
+tell_next supply awaited begun log wire ts order k n notes players there tell = subst (λ (ns : List ℕ). AllTell supply awaited begun log wire ts ns notes players) (sym (take_next order k n there) ∙ ap (λ m. take m order) (one_more k)) tell
 
 -- all of them were
-pub tell_whole : (ids : ℕ → List ℕ) (awaited : Awaited) (begun log : LogTold) (wire : ℤ) (ts : List Task) (order : List ℕ) (k : ℕ) (notes : List Turned) (players : List Player) → length order ≤ k → AllTell ids awaited begun log wire ts (take k order) notes players → AllTell ids awaited begun log wire ts order notes players
-tell_whole ids awaited begun log wire ts order k notes players over tell = subst (λ (ns : List ℕ). AllTell ids awaited begun log wire ts ns notes players) (take_all k order over) tell
+pub tell_whole : (supply : Supply) (awaited : Awaited) (begun log : LogTold) (wire : ℤ) (ts : List Task) (order : List ℕ) (k : ℕ) (notes : List Turned) (players : List Player) → length order ≤ k → AllTell supply awaited begun log wire ts (take k order) notes players → AllTell supply awaited begun log wire ts order notes players
+tell_whole supply awaited begun log wire ts order k notes players over tell = subst (λ (ns : List ℕ). AllTell supply awaited begun log wire ts ns notes players) (take_all k order over) tell
 
 -- ---- at first
 
-first_told : (ids : ℕ → List ℕ) (first : ℕ) (awaited : Awaited) (calls : List Call) (wire : ℤ) (begun : ℕ) (i : ℕ) (p : Player) → IsFirst p → JobTold ids first awaited calls wire (record { begun = begun; order = []; notes = [] }) i p None
-first_told ids first awaited calls wire begun i p is = record {
+first_told : (supply : Supply) (first : ℕ) (awaited : Awaited) (calls : List Call) (wire : ℤ) (begun : ℕ) (i : ℕ) (p : Player) → IsFirst p → JobTold supply first awaited calls wire (record { begun = begun; order = []; notes = [] }) i p None
+first_told supply first awaited calls wire begun i p is = record {
   places = record { opened = []; owns = []; now = [] };
-  tells = first_tells (sent_from ids first (task_of p)) awaited calls wire p is;
+  tells = first_tells (supply_from supply first) (sent_from supply.ids first (task_of p)) awaited calls wire p is;
   sent = record { opened = λ place of. absurd of; owns = λ m own there. absurd cc; now = λ place of. absurd of; whole = refl };
-  sends = sends_first (MaySend (sent_from ids first (task_of p))) begun i calls;
+  sends = sends_first (MaySend (supply_from supply first) (sent_from supply.ids first (task_of p))) begun i calls;
 }
 
 -- Jobs that have done nothing tell what they should, whatever was called before.
-pub tell_first : (ids : ℕ → List ℕ) (awaited : Awaited) (log : LogTold) (wire : ℤ) (ts : List Task) (players : List Player) → AreFirst players → AllTell ids awaited log log wire ts [] [] players
-tell_first ids awaited log wire ts players first calls told = (calls, told, know_first awaited calls players first, record { count = omega arith; each = λ i t p ht hp. first_told ids (first_id ts [] i) awaited calls wire (length calls) i p (first i p hp); newest = λ i p n place hp e at k later s. absurd (none_sent (length calls) i k later s) })
+pub tell_first : (supply : Supply) (awaited : Awaited) (log : LogTold) (wire : ℤ) (ts : List Task) (players : List Player) → AreFirst players → AllTell supply awaited log log wire ts [] [] players
+tell_first supply awaited log wire ts players first calls told = (calls, told, know_first awaited calls players first, record { count = omega arith; each = λ i t p ht hp. first_told supply (first_id ts [] i) awaited calls wire (length calls) i p (first i p hp); newest = λ i p n place hp e at k later s. absurd (none_sent (length calls) i k later s) }, own_first calls (length calls) (know_first awaited calls players first).owners (owners_first players))
 
 -- ---- at the end
 
@@ -306,10 +309,10 @@ module _ (awaited : Awaited) (c : Course) (i : ℕ) (calls : List Call) (wire : 
   given_caused count (ended.Gave x) given open_so = open_so
   given_caused count (ended.Failed e) given open_so = absurd given
 
-  still_open : (count : ℕ) (last : ClientStream) (now : List ℕ) (o : Ended (Unit {0})) → IsUnfinished o → OpenStands awaited c i count (length job.answers.items) calls wire last now → CloseCaused awaited c i count (length job.answers.items) calls wire last now o
-  still_open count last now ended.Unfinished is so = so
-  still_open count last now (ended.Gave x) is so = absurd is
-  still_open count last now (ended.Failed e) is so = absurd is
+  still_open : (count : ℕ) (last : ClientStream) (newest : List ℕ) (o : Ended (Unit {0})) → IsUnfinished o → OpenStands awaited c i count (length job.answers.items) calls wire last newest → CloseCaused awaited c i count (length job.answers.items) calls wire last newest o
+  still_open count last newest ended.Unfinished is so = so
+  still_open count last newest (ended.Gave x) is so = absurd is
+  still_open count last newest (ended.Failed e) is so = absurd is
 
   was_closed : (count : ℕ) (places : List ℕ) (last : ClientStream) (o : Ended (Unit {0})) → AllSentIn c i (length job.answers.items) places → ClosedBy (sent_at places calls wire) last o → FallsAt (KillsLast last) calls 1 places 0 → CloseCaused awaited c i count (length job.answers.items) calls wire last places o
   was_closed count places last ended.Unfinished sent by kills = absurd by
@@ -426,18 +429,18 @@ insert_awaits awaited past at ds (inserts.Ended (ended.Gave n)) k last tells is_
 insert_awaits awaited past at ds (inserts.Ended (ended.Failed e)) k last tells is_at pended is = absurd is
 
 -- what became of a job, by what it knows and tells
-abbrev OutcomeOfTask : (ℕ → List ℕ) → List Task → Awaited → Course → ℕ → List Call → ℤ → Task → Outcome → Type 0
-OutcomeOfTask ids ts awaited c i calls wire t r = OutcomeFollowed c i calls t r × OutcomeCaused awaited c i calls wire (as_sent ids ts c.order i t) r × OutcomeFiled c i calls t r
+abbrev OutcomeOfTask : Supply → List Task → Awaited → Course → ℕ → List Call → ℤ → Task → Outcome → Type 0
+OutcomeOfTask supply ts awaited c i calls wire t r = OutcomeFollowed c i calls t r × OutcomeCaused awaited c i calls wire (supply_of supply ts c.order i) (as_sent supply.ids ts c.order i t) r × OutcomeFiled c i calls t r
 
 abbrev IsNowAt : Course → ℕ → Task → Player → Type 0
 IsNowAt c i t p = IsAt (calls_of t) p (turns_done i c.order c.notes) (pends_last i c.order c.notes)
 
-outcome_of_job : (ids : ℕ → List ℕ) (ts : List Task) (awaited : Awaited) (c : Course) (i : ℕ) (calls : List Call) (wire : ℤ) (p : Player) (r : Outcome) (o : Owner) (at : Option ℕ) → OutcomeOf p r → IsNowAt c i (task_of p) p → Plays awaited calls p o at → JobTold ids (first_id ts c.order i) awaited calls wire c i p at → OutcomeOfTask ids ts awaited c i calls wire (task_of p) r
-outcome_of_job ids ts awaited c i calls wire (player.Insert job) r o at of is_at plays told =
-    let sent : List Fields = with_ids ids (first_id ts c.order i) job.documents.now in
+outcome_of_job : (supply : Supply) (ts : List Task) (awaited : Awaited) (c : Course) (i : ℕ) (calls : List Call) (wire : ℤ) (p : Player) (r : Outcome) (o : Owner) (at : Option ℕ) → OutcomeOf p r → IsNowAt c i (task_of p) p → Plays awaited calls p o at → JobTold supply (first_id ts c.order i) awaited calls wire c i p at → OutcomeOfTask supply ts awaited c i calls wire (task_of p) r
+outcome_of_job supply ts awaited c i calls wire (player.Insert job) r o at of is_at plays told =
+    let sent : List Fields = with_ids supply.ids (first_id ts c.order i) job.documents.now in
     let past : Past = sent_at told.places.now calls wire in (
       tt,
-      subst (λ (x : Outcome). OutcomeCaused awaited c i calls wire (as_sent ids ts c.order i (task_of (player.Insert job))) x) (sym of)
+      subst (λ (x : Outcome). OutcomeCaused awaited c i calls wire (supply_of supply ts c.order i) (as_sent supply.ids ts c.order i (task_of (player.Insert job))) x) (sym of)
           (record {
             places = told.places.now;
             sent = told.sent.now;
@@ -448,28 +451,28 @@ outcome_of_job ids ts awaited c i calls wire (player.Insert job) r o at of is_at
           }),
       tt,
     )
-outcome_of_job ids ts awaited c i calls wire (player.Follow job) r o at of is_at plays told =
+outcome_of_job supply ts awaited c i calls wire (player.Follow job) r o at of is_at plays told =
     let t : FollowTold awaited calls wire c i job.stage (kept job) at = record { places = told.places; tells = told.tells; sent = told.sent } in
     let count : ℕ = job.watched.calls in
-    subst (λ (x : Outcome). OutcomeOfTask ids ts awaited c i calls wire (task_of (player.Follow job)) x) (sym of)
+    subst (λ (x : Outcome). OutcomeOfTask supply ts awaited c i calls wire (task_of (player.Follow job)) x) (sym of)
     (follow_outcome awaited c i calls wire job at o plays t count (turns_done i c.order c.notes) (pends_last i c.order c.notes) is_at o plays, stage_caused awaited c i calls wire job at o plays t job.stage count refl is_at t, tt)
-outcome_of_job ids ts awaited c i calls wire (player.Put job) r o at of is_at plays told = (
+outcome_of_job supply ts awaited c i calls wire (player.Put job) r o at of is_at plays told = (
   tt,
-  subst (λ (x : Outcome). OutcomeCaused awaited c i calls wire (as_sent ids ts c.order i (task_of (player.Put job))) x) (sym of)
-      (put_outcome awaited c i calls wire (writes job.what) told.places job.stage (length (pieces job.what.pieces.now)) job.done (length job.what.pieces.now) (turns_done i c.order c.notes) told.tells told.sent is_at),
-  subst (λ (x : Outcome). OutcomeFiled c i calls (task_of (player.Put job)) x) (sym of) (put_filed awaited c i (number_of (player.Put job)) calls wire (writes job.what) told.places job.done job.stage told.tells told.sent),
+  subst (λ (x : Outcome). OutcomeCaused awaited c i calls wire (supply_of supply ts c.order i) (as_sent supply.ids ts c.order i (task_of (player.Put job))) x) (sym of)
+      (put_outcome awaited c i calls wire (supply_of supply ts c.order i) (writes job.what) told.places job.stage (length (pieces job.what.pieces.now)) job.done (length job.what.pieces.now) (turns_done i c.order c.notes) told.tells told.sent is_at),
+  subst (λ (x : Outcome). OutcomeFiled c i calls (task_of (player.Put job)) x) (sym of) (put_filed awaited c i (number_of (player.Put job)) calls wire (supply_of supply ts c.order i) (writes job.what) told.places job.done job.stage told.tells told.sent),
 )
-outcome_of_job ids ts awaited c i calls wire (player.Get job) r o at of is_at plays told =
-    subst (λ (x : Outcome). OutcomeOfTask ids ts awaited c i calls wire (task_of (player.Get job)) x) (sym of) (
+outcome_of_job supply ts awaited c i calls wire (player.Get job) r o at of is_at plays told =
+    subst (λ (x : Outcome). OutcomeOfTask supply ts awaited c i calls wire (task_of (player.Get job)) x) (sym of) (
       tt,
       get_caused awaited c i calls wire told.places (sought job.what) (length job.bytes.items) job.stage job.done at told.sent told.tells is_at,
       get_filed awaited c i job.done calls wire job o at told.places plays told.tells told.sent told.sends,
     )
 
 -- What the jobs of a run know and tell at its end says what became of them.
-all_outcomes : (ids given : ℕ → List ℕ) (awaited : Awaited) (log log' : LogTold) (wire : ℤ) (ts : List Task) (order : List ℕ) (notes : List Turned) (players : List Player) (outcomes : List Outcome) → length outcomes ≡ length players → HaveDrawn ids given ts order players → AllTell ids awaited log log' wire ts order notes players → AllAt ts order notes players → DoTasks ts players → OutcomesOf players outcomes
-    → (calls : List Call) → log ≡ Some calls → (calls' : List Call) × (log' ≡ Some calls') × ((i : ℕ) (t : Task) (r : Outcome) → slice_get ts i ≡ Some t → slice_get outcomes i ≡ Some r → OutcomeOfTask ids ts awaited (course calls order notes) i calls' wire t r)
-all_outcomes ids given awaited log log' wire ts order notes players outcomes count drawn tell all does of calls told =
+all_outcomes : (supply : Supply) (given : ℕ → List ℕ) (awaited : Awaited) (log log' : LogTold) (wire : ℤ) (ts : List Task) (order : List ℕ) (notes : List Turned) (players : List Player) (outcomes : List Outcome) → length outcomes ≡ length players → HaveDrawn supply.ids given ts order players → AllTell supply awaited log log' wire ts order notes players → AllAt ts order notes players → DoTasks ts players → OutcomesOf players outcomes
+    → (calls : List Call) → log ≡ Some calls → (calls' : List Call) × (log' ≡ Some calls') × ((i : ℕ) (t : Task) (r : Outcome) → slice_get ts i ≡ Some t → slice_get outcomes i ≡ Some r → OutcomeOfTask supply ts awaited (course calls order notes) i calls' wire t r)
+all_outcomes supply given awaited log log' wire ts order notes players outcomes count drawn tell all does of calls told =
     let at = tell calls told in (
       at.0,
       at.1,
@@ -477,58 +480,65 @@ all_outcomes ids given awaited log log' wire ts order notes players outcomes cou
           let p = get_length players outcomes count i r hr in
           let k = at.2.each i p.0 p.1 in
           let is : t ≡ task_of p.0 = does i t p.0 ht p.1 in
-          subst (λ (u : Task). OutcomeOfTask ids ts awaited (course calls order notes) i at.0 wire u r) (sym is)
-          (outcome_of_job ids ts awaited (course calls order notes) i at.0 wire p.0 r k.owner (at.2.places i) (of i p.0 r p.1 hr) (subst (λ (u : Task). IsNowAt (course calls order notes) i u p.0) is (all i t p.0 ht p.1)) k.plays (at.3.each i t p.0 ht p.1))),
+          subst (λ (u : Task). OutcomeOfTask supply ts awaited (course calls order notes) i at.0 wire u r) (sym is)
+          (outcome_of_job supply ts awaited (course calls order notes) i at.0 wire p.0 r k.owner (at.2.places i) (of i p.0 r p.1 hr) (subst (λ (u : Task). IsNowAt (course calls order notes) i u p.0) is (all i t p.0 ht p.1)) k.plays (at.3.each i t p.0 ht p.1))),
     )
 
-all_caused : (ids given : ℕ → List ℕ) (awaited : Awaited) (log log' : LogTold) (wire : ℤ) (ts : List Task) (order : List ℕ) (notes : List Turned) (players : List Player) (outcomes : List Outcome) → length outcomes ≡ length players → HaveDrawn ids given ts order players → AllTell ids awaited log log' wire ts order notes players → AllAt ts order notes players → DoTasks ts players → OutcomesOf players outcomes → AllCaused ids awaited log log' wire ts order notes outcomes
-all_caused ids given awaited log log' wire ts order notes players outcomes count drawn tell all does of calls told =
-    let o = all_outcomes ids given awaited log log' wire ts order notes players outcomes count drawn tell all does of calls told in
+all_caused : (supply : Supply) (given : ℕ → List ℕ) (awaited : Awaited) (log log' : LogTold) (wire : ℤ) (ts : List Task) (order : List ℕ) (notes : List Turned) (players : List Player) (outcomes : List Outcome) → length outcomes ≡ length players → HaveDrawn supply.ids given ts order players → AllTell supply awaited log log' wire ts order notes players → AllAt ts order notes players → DoTasks ts players → OutcomesOf players outcomes → AllCaused supply awaited log log' wire ts order notes outcomes
+all_caused supply given awaited log log' wire ts order notes players outcomes count drawn tell all does of calls told =
+    let o = all_outcomes supply given awaited log log' wire ts order notes players outcomes count drawn tell all does of calls told in
     (o.0, o.1, λ i t r ht hr. (o.2 i t r ht hr).1)
 
-all_followed : (ids given : ℕ → List ℕ) (awaited : Awaited) (log log' : LogTold) (wire : ℤ) (ts : List Task) (order : List ℕ) (notes : List Turned) (players : List Player) (outcomes : List Outcome) → length outcomes ≡ length players → HaveDrawn ids given ts order players → AllTell ids awaited log log' wire ts order notes players → AllAt ts order notes players → DoTasks ts players → OutcomesOf players outcomes → Knowing awaited log log' players → AllFollowed log log' ts order notes outcomes
-all_followed ids given awaited log log' wire ts order notes players outcomes count drawn tell all does of knowing calls told =
-    let o = all_outcomes ids given awaited log log' wire ts order notes players outcomes count drawn tell all does of calls told in
+all_followed : (supply : Supply) (given : ℕ → List ℕ) (awaited : Awaited) (log log' : LogTold) (wire : ℤ) (ts : List Task) (order : List ℕ) (notes : List Turned) (players : List Player) (outcomes : List Outcome) → length outcomes ≡ length players → HaveDrawn supply.ids given ts order players → AllTell supply awaited log log' wire ts order notes players → AllAt ts order notes players → DoTasks ts players → OutcomesOf players outcomes → Knowing awaited log log' players → AllFollowed log log' ts order notes outcomes
+all_followed supply given awaited log log' wire ts order notes players outcomes count drawn tell all does of knowing calls told =
+    let o = all_outcomes supply given awaited log log' wire ts order notes players outcomes count drawn tell all does of calls told in
     let k = knowing calls told in
     let same : k.0 ≡ o.0 = (let e : Some k.0 ≡ Some o.0 = sym k.1 ∙ o.1 in cc) in
     (o.0, o.1, λ i t r ht hr. (o.2 i t r ht hr).0, λ made. subst NamesItsOwn same (k.3 made))
 
 -- the same of a run, unless memory ran out
-pub caused_so : (ids given : ℕ → List ℕ) (awaited : Awaited) (log log' : LogTold) (wire : ℤ) (ts : List Task) (order : List ℕ) (notes : List Turned) (players : List Player) (result : Result Played Error) → IfOk result (λ p. length p.outcomes.items ≡ length players) → IfOk result (λ p. OutcomesOf players p.outcomes.items) → IfOk result (λ p. p.turns.items ≡ notes)
-    → HaveDrawn ids given ts order players → AllTell ids awaited log log' wire ts order notes players → AllAt ts order notes players → DoTasks ts players → IfOk result (λ p. AllCaused ids awaited log log' wire ts order p.turns.items p.outcomes.items)
-caused_so ids given awaited log log' wire ts order notes players (Ok p) count of turns drawn tell all does = subst (λ (ns : List Turned). AllCaused ids awaited log log' wire ts order ns p.outcomes.items) (sym turns) (all_caused ids given awaited log log' wire ts order notes players p.outcomes.items count drawn tell all does of)
-caused_so ids given awaited log log' wire ts order notes players (Err e) count of turns drawn tell all does = tt
+pub caused_so : (supply : Supply) (given : ℕ → List ℕ) (awaited : Awaited) (log log' : LogTold) (wire : ℤ) (ts : List Task) (order : List ℕ) (notes : List Turned) (players : List Player) (result : Result Played Error) → IfOk result (λ p. length p.outcomes.items ≡ length players) → IfOk result (λ p. OutcomesOf players p.outcomes.items) → IfOk result (λ p. p.turns.items ≡ notes)
+    → HaveDrawn supply.ids given ts order players → AllTell supply awaited log log' wire ts order notes players → AllAt ts order notes players → DoTasks ts players → IfOk result (λ p. AllCaused supply awaited log log' wire ts order p.turns.items p.outcomes.items)
+caused_so supply given awaited log log' wire ts order notes players (Ok p) count of turns drawn tell all does = subst (λ (ns : List Turned). AllCaused supply awaited log log' wire ts order ns p.outcomes.items) (sym turns) (all_caused supply given awaited log log' wire ts order notes players p.outcomes.items count drawn tell all does of)
+caused_so supply given awaited log log' wire ts order notes players (Err e) count of turns drawn tell all does = tt
 
 -- what became of files
-all_filed : (ids given : ℕ → List ℕ) (awaited : Awaited) (log log' : LogTold) (wire : ℤ) (ts : List Task) (order : List ℕ) (notes : List Turned) (players : List Player) (outcomes : List Outcome) → length outcomes ≡ length players → HaveDrawn ids given ts order players → AllTell ids awaited log log' wire ts order notes players → AllAt ts order notes players → DoTasks ts players → OutcomesOf players outcomes → AllFiled log log' ts order notes outcomes
-all_filed ids given awaited log log' wire ts order notes players outcomes count drawn tell all does of calls told =
-    let o = all_outcomes ids given awaited log log' wire ts order notes players outcomes count drawn tell all does of calls told in
+all_filed : (supply : Supply) (given : ℕ → List ℕ) (awaited : Awaited) (log log' : LogTold) (wire : ℤ) (ts : List Task) (order : List ℕ) (notes : List Turned) (players : List Player) (outcomes : List Outcome) → length outcomes ≡ length players → HaveDrawn supply.ids given ts order players → AllTell supply awaited log log' wire ts order notes players → AllAt ts order notes players → DoTasks ts players → OutcomesOf players outcomes → AllFiled log log' ts order notes outcomes
+all_filed supply given awaited log log' wire ts order notes players outcomes count drawn tell all does of calls told =
+    let o = all_outcomes supply given awaited log log' wire ts order notes players outcomes count drawn tell all does of calls told in
     (o.0, o.1, λ i t r ht hr. (o.2 i t r ht hr).2)
 
-pub filed_so : (ids given : ℕ → List ℕ) (awaited : Awaited) (log log' : LogTold) (wire : ℤ) (ts : List Task) (order : List ℕ) (notes : List Turned) (players : List Player) (result : Result Played Error) → IfOk result (λ p. length p.outcomes.items ≡ length players) → IfOk result (λ p. OutcomesOf players p.outcomes.items) → IfOk result (λ p. p.turns.items ≡ notes)
-    → HaveDrawn ids given ts order players → AllTell ids awaited log log' wire ts order notes players → AllAt ts order notes players → DoTasks ts players → IfOk result (λ p. AllFiled log log' ts order p.turns.items p.outcomes.items)
-filed_so ids given awaited log log' wire ts order notes players (Ok p) count of turns drawn tell all does = subst (λ (ns : List Turned). AllFiled log log' ts order ns p.outcomes.items) (sym turns) (all_filed ids given awaited log log' wire ts order notes players p.outcomes.items count drawn tell all does of)
-filed_so ids given awaited log log' wire ts order notes players (Err e) count of turns drawn tell all does = tt
+pub filed_so : (supply : Supply) (given : ℕ → List ℕ) (awaited : Awaited) (log log' : LogTold) (wire : ℤ) (ts : List Task) (order : List ℕ) (notes : List Turned) (players : List Player) (result : Result Played Error) → IfOk result (λ p. length p.outcomes.items ≡ length players) → IfOk result (λ p. OutcomesOf players p.outcomes.items) → IfOk result (λ p. p.turns.items ≡ notes)
+    → HaveDrawn supply.ids given ts order players → AllTell supply awaited log log' wire ts order notes players → AllAt ts order notes players → DoTasks ts players → IfOk result (λ p. AllFiled log log' ts order p.turns.items p.outcomes.items)
+filed_so supply given awaited log log' wire ts order notes players (Ok p) count of turns drawn tell all does = subst (λ (ns : List Turned). AllFiled log log' ts order ns p.outcomes.items) (sym turns) (all_filed supply given awaited log log' wire ts order notes players p.outcomes.items count drawn tell all does of)
+filed_so supply given awaited log log' wire ts order notes players (Err e) count of turns drawn tell all does = tt
 
-pub followed_so : (ids given : ℕ → List ℕ) (awaited : Awaited) (log log' : LogTold) (wire : ℤ) (ts : List Task) (order : List ℕ) (notes : List Turned) (players : List Player) (result : Result Played Error) → IfOk result (λ p. length p.outcomes.items ≡ length players) → IfOk result (λ p. OutcomesOf players p.outcomes.items) → IfOk result (λ p. p.turns.items ≡ notes)
-    → HaveDrawn ids given ts order players → AllTell ids awaited log log' wire ts order notes players → AllAt ts order notes players → DoTasks ts players → Knowing awaited log log' players → IfOk result (λ p. AllFollowed log log' ts order p.turns.items p.outcomes.items)
-followed_so ids given awaited log log' wire ts order notes players (Ok p) count of turns drawn tell all does knowing = subst (λ (ns : List Turned). AllFollowed log log' ts order ns p.outcomes.items) (sym turns) (all_followed ids given awaited log log' wire ts order notes players p.outcomes.items count drawn tell all does of knowing)
-followed_so ids given awaited log log' wire ts order notes players (Err e) count of turns drawn tell all does knowing = tt
+pub followed_so : (supply : Supply) (given : ℕ → List ℕ) (awaited : Awaited) (log log' : LogTold) (wire : ℤ) (ts : List Task) (order : List ℕ) (notes : List Turned) (players : List Player) (result : Result Played Error) → IfOk result (λ p. length p.outcomes.items ≡ length players) → IfOk result (λ p. OutcomesOf players p.outcomes.items) → IfOk result (λ p. p.turns.items ≡ notes)
+    → HaveDrawn supply.ids given ts order players → AllTell supply awaited log log' wire ts order notes players → AllAt ts order notes players → DoTasks ts players → Knowing awaited log log' players → IfOk result (λ p. AllFollowed log log' ts order p.turns.items p.outcomes.items)
+followed_so supply given awaited log log' wire ts order notes players (Ok p) count of turns drawn tell all does knowing = subst (λ (ns : List Turned). AllFollowed log log' ts order ns p.outcomes.items) (sym turns) (all_followed supply given awaited log log' wire ts order notes players p.outcomes.items count drawn tell all does of knowing)
+followed_so supply given awaited log log' wire ts order notes players (Err e) count of turns drawn tell all does knowing = tt
 
 -- ---- what was sent
 
-all_send : (ids given : ℕ → List ℕ) (awaited : Awaited) (log log' : LogTold) (wire : ℤ) (ts : List Task) (order : List ℕ) (notes : List Turned) (players : List Player) → HaveDrawn ids given ts order players → AllTell ids awaited log log' wire ts order notes players → DoTasks ts players → AllSendOnly ids log log' ts order notes
-all_send ids given awaited log log' wire ts order notes players drawn tell does calls told =
+all_send : (supply : Supply) (given : ℕ → List ℕ) (awaited : Awaited) (log log' : LogTold) (wire : ℤ) (ts : List Task) (order : List ℕ) (notes : List Turned) (players : List Player) → HaveDrawn supply.ids given ts order players → AllTell supply awaited log log' wire ts order notes players → DoTasks ts players → AllSendOnly supply log log' ts order notes
+all_send supply given awaited log log' wire ts order notes players drawn tell does calls told =
     let at = tell calls told in (
       at.0,
       at.1,
       (λ i t ht.
           let p = get_length players ts (sym drawn.jobs) i t ht in
-          subst (λ (u : Task). SendsOnly (MaySend (as_sent ids ts order i u)) (course calls order notes) i at.0) (sym (does i t p.0 ht p.1)) (at.3.each i t p.0 ht p.1).sends),
+          subst (λ (u : Task). SendsOnly (MaySend (supply_of supply ts order i) (as_sent supply.ids ts order i u)) (course calls order notes) i at.0) (sym (does i t p.0 ht p.1)) (at.3.each i t p.0 ht p.1).sends),
     )
 
 -- the same of a run, unless memory ran out
-pub sends_so : (ids given : ℕ → List ℕ) (awaited : Awaited) (log log' : LogTold) (wire : ℤ) (ts : List Task) (order : List ℕ) (notes : List Turned) (players : List Player) (result : Result Played Error) → IfOk result (λ p. p.turns.items ≡ notes)
-    → HaveDrawn ids given ts order players → AllTell ids awaited log log' wire ts order notes players → DoTasks ts players → IfOk result (λ p. AllSendOnly ids log log' ts order p.turns.items)
-sends_so ids given awaited log log' wire ts order notes players (Ok p) turns drawn tell does = subst (λ (ns : List Turned). AllSendOnly ids log log' ts order ns) (sym turns) (all_send ids given awaited log log' wire ts order notes players drawn tell does)
-sends_so ids given awaited log log' wire ts order notes players (Err e) turns drawn tell does = tt
+pub sends_so : (supply : Supply) (given : ℕ → List ℕ) (awaited : Awaited) (log log' : LogTold) (wire : ℤ) (ts : List Task) (order : List ℕ) (notes : List Turned) (players : List Player) (result : Result Played Error) → IfOk result (λ p. p.turns.items ≡ notes)
+    → HaveDrawn supply.ids given ts order players → AllTell supply awaited log log' wire ts order notes players → DoTasks ts players → IfOk result (λ p. AllSendOnly supply log log' ts order p.turns.items)
+sends_so supply given awaited log log' wire ts order notes players (Ok p) turns drawn tell does = subst (λ (ns : List Turned). AllSendOnly supply log log' ts order ns) (sym turns) (all_send supply given awaited log log' wire ts order notes players drawn tell does)
+sends_so supply given awaited log log' wire ts order notes players (Err e) turns drawn tell does = tt
+
+-- ---- whose cursors were named
+
+-- no job names a cursor that another one opened, unless memory ran out
+pub names_so : (supply : Supply) (awaited : Awaited) (log log' : LogTold) (wire : ℤ) (ts : List Task) (order : List ℕ) (notes : List Turned) (players : List Player) (result : Result Played Error) → IfOk result (λ p. p.turns.items ≡ notes) → AllTell supply awaited log log' wire ts order notes players → IfOk result (λ p. AllNameOwn log log' order p.turns.items)
+names_so supply awaited log log' wire ts order notes players (Ok p) turns tell = subst (λ (ns : List Turned). AllNameOwn log log' order ns) (sym turns) (λ calls told. let at = tell calls told in (at.0, at.1, at.4.names))
+names_so supply awaited log log' wire ts order notes players (Err e) turns tell = tt

@@ -19,7 +19,7 @@ use Rattle.mg_change.specs.OpeningView.{opening_of}
 use Rattle.mg_change.specs.StreamView.{stream_of}
 use Rattle.mg_players.specs.Causes.{AllSentIn, AllWaitAlone, Course, WaitsAlone, SentIn, course, sent_at}
 use Rattle.mg_ops.specs.Drawn.{with_ids}
-use Rattle.mg_players.specs.Drawing.{HaveDrawn, first_id}
+use Rattle.mg_players.specs.Drawing.{HaveDrawn, first_id, supply_from}
 use Rattle.mg_ops.proofs.InsertCauses.{insert_own}
 use Rattle.mg_gridfs.specs.DownloadView.{download_of, finding_of}
 use Rattle.mg_gridfs.proofs.Growing as files
@@ -29,7 +29,7 @@ use Rattle.mg_players.specs.Plays.{Places}
 use Rattle.mg_players.specs.Progress.{AllAt, Came, FollowAt, GetStageAt, InsertAt, IsAt, calls_of, came, pends_last, turns_done, PutAt}
 use Rattle.mg_gridfs.specs.UploadView.{upload_of}
 use Rattle.mg_players.proofs.PutTelling.{uploading_own}
-use Rattle.mg_players.specs.Puts.{PutTask, puts_ticket, writes}
+use Rattle.mg_players.specs.Puts.{PutTask, Supply, puts_ticket, writes}
 use Rattle.mg_players.specs.Telling.{AllSent, PutTells, put_number, AllTell, AllTold, FollowTold, GetTells, InsertTells, JobTold, Kept, kept, number}
 use Rattle.mg_players.specs.declared.put.PutStage.{PutStage}
 use Rattle.mg_players.specs.declared.put.PutStage.TheVariants as puts
@@ -179,29 +179,29 @@ get_own awaited calls wire c i q g (gets.Opens opening) done at ticket sent t ho
 get_own awaited calls wire c i q g (gets.Reads download room) done at ticket sent t holds = sent_own awaited c i done q.now calls wire ticket sent.now (files.fetching_own awaited (sent_at q.now calls wire) (download_of download) ticket t.2 holds)
 get_own awaited calls wire c i q g (gets.Ended e) done at ticket sent t holds = absurd cc
 
-put_own : (awaited : Awaited) (calls : List Call) (wire : ℤ) (c : Course) (i : ℕ) (t : PutTask) (done : ℕ) (s : PutStage) (q : Places) (ticket : ℕ) → PutTells awaited calls wire q t done s → AllSent c i q (put_number done s) → puts_ticket s ≡ Some ticket → SentOwn awaited c i ticket
-put_own awaited calls wire c i t done puts.Undrawn q ticket tells sent holds = absurd cc
-put_own awaited calls wire c i t done (puts.Begins begun) q ticket tells sent holds = absurd cc
-put_own awaited calls wire c i t done (puts.Goes going) q ticket tells sent holds =
+put_own : (awaited : Awaited) (calls : List Call) (wire : ℤ) (c : Course) (i : ℕ) (supply : Supply) (t : PutTask) (done : ℕ) (s : PutStage) (q : Places) (ticket : ℕ) → PutTells awaited calls wire q supply t done s → AllSent c i q (put_number done s) → puts_ticket s ≡ Some ticket → SentOwn awaited c i ticket
+put_own awaited calls wire c i supply t done puts.Undrawn q ticket tells sent holds = absurd cc
+put_own awaited calls wire c i supply t done (puts.Begins begun) q ticket tells sent holds = absurd cc
+put_own awaited calls wire c i supply t done (puts.Goes going) q ticket tells sent holds =
     let u = upload_of going.upload in
     sent_own awaited c i (suc done) q.now calls wire ticket sent.now (uploading_own awaited (sent_at q.now calls wire) ticket u.aim u.doing tells.0.underway holds)
-put_own awaited calls wire c i t done (puts.Ended end) q ticket tells sent holds = absurd cc
+put_own awaited calls wire c i supply t done (puts.Ended end) q ticket tells sent holds = absurd cc
 
-pub job_own : (ids : ℕ → List ℕ) (first : ℕ) (awaited : Awaited) (calls : List Call) (wire : ℤ) (c : Course) (i : ℕ) (p : Player) (at : Option ℕ) (ticket : ℕ) → JobTold ids first awaited calls wire c i p at → job_ticket p ≡ Some ticket → SentOwn awaited c i ticket
-job_own ids first awaited calls wire c i (player.Insert job) at ticket t holds =
-    sent_own awaited c i 0 t.places.now calls wire ticket t.sent.now (stage_own awaited (sent_at t.places.now calls wire) (space job.ns.now) (with_ids ids first job.documents.now) job.stage ticket t.tells.tells holds)
-job_own ids first awaited calls wire c i (player.Follow job) at ticket t holds = follow_own awaited calls wire c i job.stage (kept job) at ticket (record { places = t.places; tells = t.tells; sent = t.sent }) holds
-job_own ids first awaited calls wire c i (player.Put job) at ticket t holds = put_own awaited calls wire c i (writes job.what) job.done job.stage t.places ticket t.tells t.sent holds
-job_own ids first awaited calls wire c i (player.Get job) at ticket t holds = get_own awaited calls wire c i t.places (sought job.what) job.stage job.done at ticket t.sent t.tells holds
+pub job_own : (supply : Supply) (first : ℕ) (awaited : Awaited) (calls : List Call) (wire : ℤ) (c : Course) (i : ℕ) (p : Player) (at : Option ℕ) (ticket : ℕ) → JobTold supply first awaited calls wire c i p at → job_ticket p ≡ Some ticket → SentOwn awaited c i ticket
+job_own supply first awaited calls wire c i (player.Insert job) at ticket t holds =
+    sent_own awaited c i 0 t.places.now calls wire ticket t.sent.now (stage_own awaited (sent_at t.places.now calls wire) (space job.ns.now) (with_ids supply.ids first job.documents.now) job.stage ticket t.tells.tells holds)
+job_own supply first awaited calls wire c i (player.Follow job) at ticket t holds = follow_own awaited calls wire c i job.stage (kept job) at ticket (record { places = t.places; tells = t.tells; sent = t.sent }) holds
+job_own supply first awaited calls wire c i (player.Put job) at ticket t holds = put_own awaited calls wire c i (supply_from supply first) (writes job.what) job.done job.stage t.places ticket t.tells t.sent holds
+job_own supply first awaited calls wire c i (player.Get job) at ticket t holds = get_own awaited calls wire c i t.places (sought job.what) job.stage job.done at ticket t.sent t.tells holds
 
 -- ---- at the end of a run
 
-module _ (ids given : ℕ → List ℕ) (before awaited : Awaited) (calls calls' : List Call) (wire : ℤ) (ts : List Task) (order : List ℕ) (notes : List Turned) (players : List Player) (drawn : HaveDrawn ids given ts order players) (places : ℕ → Option ℕ) (tell : AllTold ids awaited calls' wire (course calls order notes) ts players places) where
+module _ (supply : Supply) (given : ℕ → List ℕ) (before awaited : Awaited) (calls calls' : List Call) (wire : ℤ) (ts : List Task) (order : List ℕ) (notes : List Turned) (players : List Player) (drawn : HaveDrawn supply.ids given ts order players) (places : ℕ → Option ℕ) (tell : AllTold supply awaited calls' wire (course calls order notes) ts players places) where
   -- the call of a ticket that a job holds
   held_own : (ticket place : ℕ) → awaited ticket ≡ Some place → (by : HeldBy players ticket) → (done : ℕ) × SentIn (course calls order notes) by.job done place
   held_own ticket place at by =
       let t = get_length ts players drawn.jobs by.job by.player by.there in
-      let own = job_own ids (first_id ts order by.job) awaited calls' wire (course calls order notes) by.job by.player (places by.job) ticket (tell.each by.job t.0 by.player t.1 by.there) by.holds in
+      let own = job_own supply (first_id ts order by.job) awaited calls' wire (course calls order notes) by.job by.player (places by.job) ticket (tell.each by.job t.0 by.player t.1 by.there) by.holds in
       (own.done, subst (λ n. SentIn (course calls order notes) by.job own.done n) (same_some own.place place (sym own.at ∙ at)) own.sent)
 
   -- two tickets whose calls a job sent are one, or not of a job
@@ -228,17 +228,17 @@ module _ (ids given : ℕ → List ℕ) (before awaited : Awaited) (calls calls'
         alone = held_alone holds ticket by;
       }
 
-all_wait : (ids given : ℕ → List ℕ) (before awaited : Awaited) (log log' : LogTold) (wire : ℤ) (ts : List Task) (order : List ℕ) (notes : List Turned) (players : List Player) → HaveDrawn ids given ts order players → AllTell ids awaited log log' wire ts order notes players → AllAt ts order notes players → AreHeld before awaited players → AllWaitAlone before awaited log order notes
-all_wait ids given before awaited log log' wire ts order notes players drawn tell all holds calls told ticket place at =
+all_wait : (supply : Supply) (given : ℕ → List ℕ) (before awaited : Awaited) (log log' : LogTold) (wire : ℤ) (ts : List Task) (order : List ℕ) (notes : List Turned) (players : List Player) → HaveDrawn supply.ids given ts order players → AllTell supply awaited log log' wire ts order notes players → AllAt ts order notes players → AreHeld before awaited players → AllWaitAlone before awaited log order notes
+all_wait supply given before awaited log log' wire ts order notes players drawn tell all holds calls told ticket place at =
     let run = tell calls told in
     elim (holds ticket (ap (λ o. is_some o) at)) [
-      | inl by ↦ inr (held_waits ids given before awaited calls run.0 wire ts order notes players drawn run.2.places run.3 all holds ticket place at by)
+      | inl by ↦ inr (held_waits supply given before awaited calls run.0 wire ts order notes players drawn run.2.places run.3 all holds ticket place at by)
       | inr same ↦ inl (sym same ∙ at)
     ]
 
 -- the same of a run, unless memory ran out
-pub wait_so : (ids given : ℕ → List ℕ) (before awaited : Awaited) (log log' : LogTold) (wire : ℤ) (ts : List Task) (order : List ℕ) (notes : List Turned) (players : List Player) (result : Result Played Error) → IfOk result (λ p. p.turns.items ≡ notes)
-    → HaveDrawn ids given ts order players → AllTell ids awaited log log' wire ts order notes players → AllAt ts order notes players → AreHeld before awaited players → IfOk result (λ p. AllWaitAlone before awaited log order p.turns.items)
-wait_so ids given before awaited log log' wire ts order notes players (Ok p) turns drawn tell all holds =
-    subst (λ (ns : List Turned). AllWaitAlone before awaited log order ns) (sym turns) (all_wait ids given before awaited log log' wire ts order notes players drawn tell all holds)
-wait_so ids given before awaited log log' wire ts order notes players (Err e) turns drawn tell all holds = tt
+pub wait_so : (supply : Supply) (given : ℕ → List ℕ) (before awaited : Awaited) (log log' : LogTold) (wire : ℤ) (ts : List Task) (order : List ℕ) (notes : List Turned) (players : List Player) (result : Result Played Error) → IfOk result (λ p. p.turns.items ≡ notes)
+    → HaveDrawn supply.ids given ts order players → AllTell supply awaited log log' wire ts order notes players → AllAt ts order notes players → AreHeld before awaited players → IfOk result (λ p. AllWaitAlone before awaited log order p.turns.items)
+wait_so supply given before awaited log log' wire ts order notes players (Ok p) turns drawn tell all holds =
+    subst (λ (ns : List Turned). AllWaitAlone before awaited log order ns) (sym turns) (all_wait supply given before awaited log log' wire ts order notes players drawn tell all holds)
+wait_so supply given before awaited log log' wire ts order notes players (Err e) turns drawn tell all holds = tt

@@ -5,7 +5,7 @@ use Rattle.mg_bson.specs.Raw.{fields}
 use Rattle.mg_bson.specs.Writable.{max_len}
 use Rattle.mg_link.specs.Commands.{Asked, Told, as_database, asked, asks_create, asks_insert, asks_more, refuses}
 use Rattle.mg_link.specs.Errors.{plain}
-use Rattle.mg_link.specs.Files.{IsWhole, chunked}
+use Rattle.mg_link.specs.Files.{Bucket, IsWhole, chunked, chunks_space, files_space}
 use Rattle.mg_link.specs.History.{Step, IsLegal, state_of, told_at}
 use Rattle.mg_link.specs.Link.{LogTold}
 use Rattle.mg_link.specs.Log.{Call}
@@ -304,18 +304,29 @@ pub record FollowEndsIn {A B : Type 0} (excuses : Excuses) (nothings : Nothings)
   pub goes_well : begins → FollowWell excuses nothings count opened said closed
   pub ends : taken → FollowWell excuses nothings count opened said closed
 
+-- the store takes the names of both collections of a bucket
+pub record HasShortFiles (at : Bucket) : Type 0 where
+  pub files_short : HasShortNames (files_space at)
+  pub chunks_short : HasShortNames (chunks_space at)
+
+-- it ends well where its names may be, and where none of its steps was refused and it finds few indexes
+pub record PutEndsIn (excused : Error → Type 0) (may taken few : Type 0) (end : Ended ℕ) : Type 0 where
+  pub goes_well : may → EndsWell excused end
+  pub ends : taken → few → EndsWell excused end
+
 -- In the history of its store a follow with a size of batches that may be, and one turn more than calls that did not pend, ends so. An insert of fresh documents
--- into a collection with short names, with one such turn, ends well. So does a valid put of fresh ones that finds few indexes, with two such turns more than pieces,
--- and a get of a file that is whole, with two turns more than it has bytes, where none of its steps was refused.
+-- into a collection with short names, with one such turn, ends well. So does a valid put of fresh ones, with two such turns more than pieces, where its collections
+-- have short names, or none of its steps was refused and it finds few indexes; and a get of a file that is whole, with two turns more than it has bytes, where it reads
+-- collections with short names or none of its steps was refused.
 abbrev pub OutcomeEndsIn : Excuses → Course → ℕ → List Call → List Step → Task → Outcome → Type 0
 OutcomeEndsIn excuses c i calls history (follow on count start filter batch) =
     OfFollow (λ opened said token alive closed. (SizePasses batch → ⊥) → suc count ≤ turns_done i c.order c.notes → FollowEndsIn excuses (FindsNothing c i calls history) (NoneRefused c i calls history) (MayBegin c i calls history on start filter) count opened said.items closed)
 OutcomeEndsIn excuses c i calls history (insert ns docs) =
     OfInsert (λ end. HasShortNames ns → SendFresh (positions_at calls (places_of c i)) history → 1 ≤ turns_done i c.order c.notes → EndsWell (excuses ⊥) end)
 OutcomeEndsIn excuses c i calls history (put db bucket name id chunk pieces) =
-    OfPut (λ end. NoneRefused c i calls history → IsValidPut (put_of db bucket name id chunk pieces) → SendFresh (positions_at calls (places_of c i)) history → HasFewIndexes (positions_at calls (places_of c i)) history (put_of db bucket name id chunk pieces) → length pieces + 2 ≤ turns_done i c.order c.notes → EndsWell (excuses ⊥) end)
+    OfPut (λ end. IsValidPut (put_of db bucket name id chunk pieces) → SendFresh (positions_at calls (places_of c i)) history → length pieces + 2 ≤ turns_done i c.order c.notes → PutEndsIn (excuses ⊥) (HasShortFiles (put_of db bucket name id chunk pieces).at) (NoneRefused c i calls history) (HasFewIndexes (positions_at calls (places_of c i)) history (put_of db bucket name id chunk pieces)) end)
 OutcomeEndsIn excuses c i calls history (get db bucket id read) =
-    OfGet (λ bytes end. NoneRefused c i calls history → GetWell (excuses ⊥) c i calls history (get_of db bucket id read) end)
+    OfGet (λ bytes end. NoneRefused c i calls history ⊎ HasShortFiles (get_of db bucket id read).at → GetWell (excuses ⊥) c i calls history (get_of db bucket id read) end)
 
 -- it ends so, and by want of memory alone where it fits the limits
 abbrev pub JobWellIn : Course → ℕ → List Call → List Step → Task → Outcome → Type 0

@@ -16,7 +16,9 @@ use Rattle.mg_players.specs.Causes.{AllPollOwn, AllWaitAlone, OutcomeCaused, cou
 use Rattle.mg_jobs.specs.Completing.{AnswersWellIn, JobWell, JobWellIn, NoneRefused}
 use Rattle.mg_players.specs.Counts.{AreNoted, turns_pended}
 use Rattle.mg_jobs.specs.Fated.{AreItsSteps}
-use Rattle.mg_players.specs.Drawing.{as_sent}
+use Rattle.mg_players.specs.Owned.{NamesNoOthers}
+use Rattle.mg_players.specs.Drawing.{as_sent, supplied, supply_of}
+use Rattle.mg_players.specs.Puts.{Supply}
 use Rattle.mg_players.specs.Progress.{AllPlayed}
 use Rattle.mg_players.specs.Sends.{MaySend, SendsOnly}
 use Rattle.mg_players.specs.Headline.{OutcomeFiled, OutcomeFollowed}
@@ -78,16 +80,22 @@ ReadMissing old new n = (script : Plan) × ReadScript old new script × LacksJob
 abbrev pub script_ids : Script → ℕ → List ℕ
 script_ids script n = counted_id (script.ids ++ 0 ∷ []) n
 
+-- what its jobs are supplied with: these ids, and the moment that it names
+abbrev pub script_supply : Script → Supply
+script_supply script = supplied (script_ids script) script.moment.millis
+
 -- What the jobs of a run over one link came to. The link's log stands in the history of the run's own store, which is legal and whose steps are by the
 -- rules; the ids that are printed as open are those of the cursors in the state that it leads to; each of its calls is as the fate of its number in the script says, and each of them names the log's own cursors only. In every legal history in
 -- which the log stands each follow answered consecutive entries from its own opening place on, and each get that ended well gave the bytes of its file; each answer of a follow has its cause among the commands of
 -- its own turns; each put that ended well left its file whole, where nobody else touched it; each insert sends its documents with the script's next ids. There is one outcome for each job and one note for each turn, by which it
 -- follows how far each job came. Each note says rightly whether its turn pended: one poll pended in it, or none, and that of the newest command which its
 -- job sent up to then, by the notes; and each call pended as often as its fate says, or less while it waits. A call that waits was sent in a turn of a job
--- whose newest turn pended by its note, and which waits for no other. Each command that a turn sent, by the notes, is one that its job may send. Where every
+-- whose newest turn pended by its note, and which waits for no other. Each command that a turn sent, by the notes, is one that its job may send: what a put stores has
+-- the script's next ids and its moment. Where every
 -- fate keeps its command, each job ends as its kind promises whose steps were answered at once; and so were, in the history of the run's own
 -- store, the steps of each job of which it refused none, but the creation of a collection that is there.
--- There each insert of fresh documents ends well, and each follow that may begin is opened and ends well, whatever else the run's store did.
+-- There each insert of fresh documents ends well, each follow that may begin is opened and ends well, and so ends each valid put of fresh documents, and each get of a
+-- file that is whole, whose collections have short names, whatever else the run's store did. No job names a cursor that another one opened.
 pub record RunFollowed (run : Run) : Type 0 where
   pub calls : List Call
   pub log_is : run.logs.items ≡ calls ∷ []
@@ -102,7 +110,7 @@ pub record RunFollowed (run : Run) : Type 0 where
   pub filed : (i : ℕ) (t : Task) (r : Outcome) → slice_get (tasks run.script.jobs.items) i ≡ Some t → slice_get run.outcomes.items i ≡ Some r → OutcomeFiled (course [] run.script.order.items turns.items) i calls t r
   pub own : NamesItsOwn calls
   pub caused : (i : ℕ) (t : Task) (r : Outcome) → slice_get (tasks run.script.jobs.items) i ≡ Some t → slice_get run.outcomes.items i ≡ Some r
-      → OutcomeCaused (out_at calls) (course [] run.script.order.items turns.items) i calls run.script.wire (as_sent (script_ids run.script) (tasks run.script.jobs.items) run.script.order.items i t) r
+      → OutcomeCaused (out_at calls) (course [] run.script.order.items turns.items) i calls run.script.wire (supply_of (script_supply run.script) (tasks run.script.jobs.items) run.script.order.items i) (as_sent (script_ids run.script) (tasks run.script.jobs.items) run.script.order.items i t) r
   pub fates : List Fate
   pub fates_are : plans.fates fates ≡ plans.fates run.script.fates.items
   pub pended : List ℕ
@@ -115,8 +123,9 @@ pub record RunFollowed (run : Run) : Type 0 where
   pub polled : AllPollOwn (Some []) run.script.order.items turns.items (polls_in []) (polls_in pended)
   pub waits_alone : AllWaitAlone (out_at []) (out_at calls) (Some []) run.script.order.items turns.items
   pub sends : (i : ℕ) (t : Task) → slice_get (tasks run.script.jobs.items) i ≡ Some t
-      → SendsOnly (MaySend (as_sent (script_ids run.script) (tasks run.script.jobs.items) run.script.order.items i t)) (course [] run.script.order.items turns.items) i calls
+      → SendsOnly (MaySend (supply_of (script_supply run.script) (tasks run.script.jobs.items) run.script.order.items i) (as_sent (script_ids run.script) (tasks run.script.jobs.items) run.script.order.items i t)) (course [] run.script.order.items turns.items) i calls
   pub prompt : (i : ℕ) → NoneRefused (course [] run.script.order.items turns.items) i calls (steps_of run.store.history) → AnswersWellIn (course [] run.script.order.items turns.items) i calls (steps_of run.store.history)
+  pub names : (i : ℕ) → NamesNoOthers calls (course [] run.script.order.items turns.items) i
   pub well : AreKept 0 fates → (i : ℕ) (t : Task) (r : Outcome) → slice_get (tasks run.script.jobs.items) i ≡ Some t → slice_get run.outcomes.items i ≡ Some r
       → JobWell (course [] run.script.order.items turns.items) i calls (as_sent (script_ids run.script) (tasks run.script.jobs.items) run.script.order.items i t) r
   pub well_here : AreKept 0 fates → (i : ℕ) (t : Task) (r : Outcome) → slice_get (tasks run.script.jobs.items) i ≡ Some t → slice_get run.outcomes.items i ≡ Some r

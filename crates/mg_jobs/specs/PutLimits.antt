@@ -16,7 +16,7 @@ use Rattle.mg_gridfs.specs.declared.indexes.Place.{Place}
 use Rattle.mg_jobs.specs.Own.{IsOwnCursor}
 use Rattle.mg_players.specs.PutFailures.{NotBuilt}
 use Rattle.mg_players.specs.Puts.{NamesFiles, PutTask, put_aim, put_bucket, total}
-use Rattle.mg_players.specs.PutSends.{plain_manner}
+use Rattle.mg_players.specs.Gets.{no_manner}
 
 -- ---- what is not built
 
@@ -25,7 +25,7 @@ use Rattle.mg_players.specs.PutSends.{plain_manner}
 pub data CannotPut (heard : List ℕ → Type 0) (t : PutTask) (e : Error) : Type 0 where
   of_file : NotBuilt (put_aim t) e → CannotPut heard t e
   in_check : (lines : List Line) → IsOfCheck (put_bucket t) lines → CannotSend lines e → CannotPut heard t e
-  a_getMore : (id : ℤ) (space : Space) → IsOwnCursor heard id space → CannotBeSent (next_command id space plain_manner) e → CannotPut heard t e
+  a_getMore : (id : ℤ) (space : Space) → IsOwnCursor heard id space → CannotBeSent (next_command id space no_manner) e → CannotPut heard t e
   a_removal : (original : Option Error) (d : Error) → CannotSend (deletion_lines (put_bucket t) t.id) d → FailsToUndo original d e → CannotPut heard t e
 
 -- memory ran out, or something of it is not built

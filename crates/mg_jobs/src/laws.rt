@@ -20,6 +20,7 @@ ghost use Rattle.mg_script.specs.declared.outcome.Outcome.{Outcome};
 ghost use Rattle.mg_jobs.specs.declared.program.Ending.{Ending};
 ghost use Rattle.mg_jobs.specs.Program.{Caused, IsOf};
 ghost use Rattle.mg_players.specs.Progress.{IsPlayed, pends_last, turns_done};
+ghost use Rattle.mg_players.specs.Puts.{Supply};
 
 /// Where it is known what is left in a source, this decides what came of it: each ending that is not a failed read or
 /// want of memory comes exactly where the bytes are too many, or no script with this first fault, or a script whose order
@@ -61,11 +62,12 @@ pub fn jobs_stay_apart()
 /// more than calls that did not pend had all its calls answered, and its stream was closed. Each answer is an event, or
 /// nothing where it took a first batch, a reply had told that the stream has ended, or nothing was left to be seen by the
 /// cursor of its getMore as that took effect. And an insert that had one such turn, and whose documents could be stored as
-/// its commands took effect, inserted them; and a get of a file that was whole before its first step, and that nobody else
-/// touched up to its last, read it to its end in two turns more than it has bytes. What may still fail is excused: memory ran
-/// out; or a document of the job, or a command that it must send, passes the limits. Where none of them does, memory ran out.
+/// its commands took effect, inserted them; a get of a file that was whole before its first step, and that nobody else
+/// touched up to its last, read it to its end in two turns more than it has bytes; and a valid put of fresh documents, which
+/// found few indexes and had two such turns more than pieces, ended well. What may still fail is excused: memory ran out; or
+/// a document of the job, or a command that it must send, passes the limits. Where none of them does, memory ran out.
 pub fn jobs_end_well()
-    ensures { (awaited : Awaited) (c : Course) (i : ℕ) (begun calls : List Call) (wire : ℤ) (t : Task) (r : Outcome)
-        → length begun ≡ c.begun → Faultless begun calls → OutcomeCaused awaited c i calls wire t r
+    ensures { (awaited : Awaited) (c : Course) (i : ℕ) (begun calls : List Call) (wire : ℤ) (supply : Supply) (t : Task) (r : Outcome)
+        → length begun ≡ c.begun → Faultless begun calls → OutcomeCaused awaited c i calls wire supply t r
         → IsPlayed t (turns_done i c.order c.notes) (pends_last i c.order c.notes) r → OutcomeGot c i calls t r → JobWell c i calls t r }
 {}

@@ -6,7 +6,7 @@ ghost use Rattle.mg_link.specs.Link.{Awaited, Later, LogTold};
 ghost use Rattle.mg_link.specs.Causes.{RoseJust};
 ghost use Rattle.mg_players.specs.Counts.{AreNoted, IsNoted, LosesNothing, PolledNewest, StartedBy, turns_pended};
 ghost use Rattle.mg_ops.specs.Drawn.{AreLater};
-ghost use Rattle.mg_players.specs.Drawing.{DrawsAs, HaveDrawn, drawn_in};
+ghost use Rattle.mg_players.specs.Drawing.{DrawsAt, HaveDrawn, drawn_in, supplied};
 ghost use Rattle.mg_players.specs.Runs.{AreHeld, AreNew, AreSameJobs, CanGo, Draws, Goes, IsReady, IsSameJob, has_ended, idle};
 ghost use Rattle.mg_jobs.specs.Runners.{Stands, job_ended, notes_of, players_of};
 ghost use Rattle.mg_players.specs.Headline.{AllFiled, AllFollowed, AreFirst, GoesOnNaming, DoTasks, Knowing, OutcomesOf};
@@ -14,10 +14,12 @@ ghost use Rattle.mg_script.specs.Plan.{Task, tasks};
 ghost use Rattle.mg_players.specs.Progress.{AllAt, AllPlayed, GoesBy, TurnsBy};
 ghost use Rattle.mg_players.specs.Causes.{AllCaused, AllPollOwn, AllWaitAlone, PollsOwn};
 ghost use Rattle.mg_jobs.specs.Completing.{AllWell};
+ghost use Rattle.mg_players.specs.Owned.{AllNameOwn};
 ghost use Rattle.mg_players.specs.Sends.{AllSendOnly};
 ghost use Rattle.mg_script.specs.Script.{first_missing};
 ghost use Rattle.mg_players.specs.Playing.{job_ticket};
-ghost use Rattle.mg_players.specs.Plays.{AnySent};
+ghost use Rattle.mg_players.specs.Plays.{SentAt};
+ghost use Rattle.mg_players.specs.Puts.{IsMoment, Supply};
 ghost use Rattle.mg_players.specs.Telling.{AllTell};
 
 use crate::counting::{Began, Counting};
@@ -57,7 +59,7 @@ fn counted_since<'a, L: Link, B: Began>(link: L, turn: Turn<'a>) -> (L, Gone<'a>
     requires pends { L.pends link ≡ B.pends }
     requires polls { L.polls link ≡ B.polls }
     requires prompts { B.prompts → L.prompt link }
-    ensures goes { Goes AnySent (L.awaited link) (L.awaited result.0) (L.log link) (L.log result.0) (L.wire result.0) turn.entry.player result.1.player }
+    ensures goes { Goes (SentAt turn.entry.moment.millis) (L.awaited link) (L.awaited result.0) (L.log link) (L.log result.0) (L.wire result.0) turn.entry.player result.1.player }
     ensures later { Later (L.faults link) (L.faults result.0) (L.pends link) (L.pends result.0)
         (L.wire link) (L.wire result.0) (L.prompt link) (L.prompt result.0) }
     ensures noted { IsNoted result.1.note B.calls (L.log result.0) B.pends (L.pends result.0) B.prompts (L.prompt result.0) }
@@ -79,7 +81,7 @@ fn counted_since<'a, L: Link, B: Began>(link: L, turn: Turn<'a>) -> (L, Gone<'a>
 fn counted<'a, L: Link>(link: L, turn: Turn<'a>) -> (L, Gone<'a>)
     requires can { CanGo (L.awaited link) (L.wire link) turn.player }
     requires ready { IsReady turn.player }
-    ensures goes { Goes AnySent (L.awaited link) (L.awaited result.0) (L.log link) (L.log result.0) (L.wire result.0) turn.entry.player result.1.player }
+    ensures goes { Goes (SentAt turn.entry.moment.millis) (L.awaited link) (L.awaited result.0) (L.log link) (L.log result.0) (L.wire result.0) turn.entry.player result.1.player }
     ensures later { Later (L.faults link) (L.faults result.0) (L.pends link) (L.pends result.0)
         (L.wire link) (L.wire result.0) (L.prompt link) (L.prompt result.0) }
     ensures noted { IsNoted result.1.note (L.log link) (L.log result.0) (L.pends link) (L.pends result.0) (L.prompt link) (L.prompt result.0) }
@@ -99,7 +101,7 @@ fn turn_of<'a, L: Link, I: IdSource>(
     moment: DateTime,
 ) -> Result<Turned, Error>
     requires { CanGo (L.awaited link.old) (L.wire link.old) player.old }
-    ensures goes { Goes (DrawsAs (I.ids ids.old) player.old) (L.awaited link.old) (L.awaited link.new) (L.log link.old) (L.log link.new) (L.wire link.new) player.old player.new }
+    ensures goes { Goes (DrawsAt (I.ids ids.old) moment.millis player.old) (L.awaited link.old) (L.awaited link.new) (L.log link.old) (L.log link.new) (L.wire link.new) player.old player.new }
     ensures later { Later (L.faults link.old) (L.faults link.new) (L.pends link.old) (L.pends link.new)
         (L.wire link.old) (L.wire link.new) (L.prompt link.old) (L.prompt link.new) }
     ensures noted { IfOk result (λ n. IsNoted n (L.log link.old) (L.log link.new) (L.pends link.old) (L.pends link.new) (L.prompt link.old) (L.prompt link.new)) }
@@ -201,17 +203,18 @@ impl<'a> Runner<'a> {
         // each of its chunks.
         ensures drawn { OnOk result ((first : ℕ → List ℕ) (ts : List Task) (order : List ℕ) → DoTasks ts (players_of self.old)
             → HaveDrawn first (I.ids ids.old) ts order (players_of self.old) → HaveDrawn first (I.ids ids.new) ts (order ++ job ∷ []) (players_of self.new)) }
-        // Each job goes on telling what caused its answers, and what it sends.
-        ensures told { OnOk result ((first : ℕ → List ℕ) (begun : LogTold) (ts : List Task) (order : List ℕ) → length order ≡ length (notes_of self.old) → AllAt ts order (notes_of self.old) (players_of self.old)
-            → HaveDrawn first (I.ids ids.old) ts order (players_of self.old)
-            → AllTell first (L.awaited link.old) begun (L.log link.old) (L.wire link.old) ts order (notes_of self.old) (players_of self.old)
-            → AllTell first (L.awaited link.new) begun (L.log link.new) (L.wire link.new) ts (order ++ job ∷ []) (notes_of self.new) (players_of self.new)) }
+        // Each job goes on telling what caused its answers, and what it sends, where new records get the moment of this turn, or it
+        // is not said which.
+        ensures told { OnOk result ((supply : Supply) (begun : LogTold) (ts : List Task) (order : List ℕ) → IsMoment supply.moment moment.millis → length order ≡ length (notes_of self.old) → AllAt ts order (notes_of self.old) (players_of self.old)
+            → HaveDrawn supply.ids (I.ids ids.old) ts order (players_of self.old)
+            → AllTell supply (L.awaited link.old) begun (L.log link.old) (L.wire link.old) ts order (notes_of self.old) (players_of self.old)
+            → AllTell supply (L.awaited link.new) begun (L.log link.new) (L.wire link.new) ts (order ++ job ∷ []) (notes_of self.new) (players_of self.new)) }
         // One poll pended just where the note says so, and that of the newest command of its own job: the last one of this turn,
         // or, where it sent none, the last one before, where its newest turn before pended too.
         ensures polled { OnOk result ((note : _) × (notes_of self.new ≡ notes_of self.old ++ note ∷ [])
-            × ((first : ℕ → List ℕ) (begun : LogTold) (ts : List Task) (order : List ℕ) → AllAt ts order (notes_of self.old) (players_of self.old)
-            → HaveDrawn first (I.ids ids.old) ts order (players_of self.old)
-            → AllTell first (L.awaited link.old) begun (L.log link.old) (L.wire link.old) ts order (notes_of self.old) (players_of self.old)
+            × ((supply : Supply) (begun : LogTold) (ts : List Task) (order : List ℕ) → AllAt ts order (notes_of self.old) (players_of self.old)
+            → HaveDrawn supply.ids (I.ids ids.old) ts order (players_of self.old)
+            → AllTell supply (L.awaited link.old) begun (L.log link.old) (L.wire link.old) ts order (notes_of self.old) (players_of self.old)
             → PollsOwn begun order (notes_of self.old) job note (L.polls link.old) (L.polls link.new))) }
         // E15 just where the number names no job, and otherwise want of memory.
         ensures missing { length (players_of self.old) ≤ job → result ≡ Err (plain (ErrorKind.NoSuchJob job)) }
@@ -287,13 +290,13 @@ fn play<L: Link, I: IdSource>(
         → HaveDrawn first (I.ids ids.new) ts order.now runner.new.players.items) }
     ensures stopped { (first : ℕ → List ℕ) (ts : List Task) → DoTasks ts runner.old.players.items → HaveDrawn first (I.ids ids.old) ts [] runner.old.players.items
         → (n : ℕ) × AreLater first (drawn_in ts (take n order.now)) (I.ids ids.new) }
-    ensures told { OnOk result ((first : ℕ → List ℕ) (begun : LogTold) (ts : List Task) → DoTasks ts runner.old.players.items → AllAt ts [] [] runner.old.players.items
-        → HaveDrawn first (I.ids ids.old) ts [] runner.old.players.items
-        → AllTell first (L.awaited link.old) begun (L.log link.old) (L.wire link.old) ts [] [] runner.old.players.items
-        → AllTell first (L.awaited link.new) begun (L.log link.new) (L.wire link.new) ts order.now runner.new.turns.items runner.new.players.items) }
-    ensures polled { OnOk result ((first : ℕ → List ℕ) (begun : LogTold) (ts : List Task) → DoTasks ts runner.old.players.items → AllAt ts [] [] runner.old.players.items
-        → HaveDrawn first (I.ids ids.old) ts [] runner.old.players.items
-        → AllTell first (L.awaited link.old) begun (L.log link.old) (L.wire link.old) ts [] [] runner.old.players.items
+    ensures told { OnOk result ((supply : Supply) (begun : LogTold) (ts : List Task) → IsMoment supply.moment moment.millis → DoTasks ts runner.old.players.items → AllAt ts [] [] runner.old.players.items
+        → HaveDrawn supply.ids (I.ids ids.old) ts [] runner.old.players.items
+        → AllTell supply (L.awaited link.old) begun (L.log link.old) (L.wire link.old) ts [] [] runner.old.players.items
+        → AllTell supply (L.awaited link.new) begun (L.log link.new) (L.wire link.new) ts order.now runner.new.turns.items runner.new.players.items) }
+    ensures polled { OnOk result ((supply : Supply) (begun : LogTold) (ts : List Task) → IsMoment supply.moment moment.millis → DoTasks ts runner.old.players.items → AllAt ts [] [] runner.old.players.items
+        → HaveDrawn supply.ids (I.ids ids.old) ts [] runner.old.players.items
+        → AllTell supply (L.awaited link.old) begun (L.log link.old) (L.wire link.old) ts [] [] runner.old.players.items
         → AllPollOwn begun order.now runner.new.turns.items (L.polls link.old) (L.polls link.new)) }
     ensures err { IfErr result (λ e. e ≡ plain ErrorKind.OutOfMemory) }
 {
@@ -325,6 +328,7 @@ pub fn run_jobs<L: Link, I: IdSource>(
     ensures followed { IfOk result (λ p. AllFollowed (L.log link.old) (L.log link.new) (tasks jobs.now) order.now p.turns.items p.outcomes.items) }
     // Over an honest link each put that ended well left its file whole, where nobody else touched it, and each get that ended
     // well gave the bytes of the file that stood whole before its first step and that nobody touched up to its last one.
+    // No get blames a chunk of such a file: it does so only where those that stood are not what their record says.
     ensures filed { IfOk result (λ p. AllFiled (L.log link.old) (L.log link.new) (tasks jobs.now) order.now p.turns.items p.outcomes.items) }
     // Each insert drew the source's next ids in its first turn, one for each of its documents that has none; each put one for each
     // of its chunks.
@@ -336,9 +340,10 @@ pub fn run_jobs<L: Link, I: IdSource>(
     // Each answer of a follow has its cause among the commands of its own turns, and the call that opened it is the one from
     // whose opening place it answers. By those of its own an insert that ended well appended its documents, in order, and
     // one that failed did so; what it sends has the ids that it drew. A put that ended well stored its file by its own commands;
-    // one that failed did so by those of its last call, as a get by those of its opening or of its last call. A job that is
-    // unfinished, and whose last turn pended, waits for the reply to a command of its own.
-    ensures caused { IfOk result (λ p. AllCaused (I.ids ids.old) (L.awaited link.new) (L.log link.old) (L.log link.new) (L.wire link.old) (tasks jobs.now) order.now p.turns.items p.outcomes.items) }
+    // one that failed did so by those of its last call, as a get by those of its opening or of its last call. What a put sends has
+    // the ids that it drew, chunk by chunk, and the moment. A job that is unfinished, and whose last turn pended, waits for the
+    // reply to a command of its own.
+    ensures caused { IfOk result (λ p. AllCaused (supplied (I.ids ids.old) moment.millis) (L.awaited link.new) (L.log link.old) (L.log link.new) (L.wire link.old) (tasks jobs.now) order.now p.turns.items p.outcomes.items) }
     // Over a link that tells its log, each call that waits for its reply was sent in a turn of a job whose newest turn pended
     // by its note, and that job waits for no other, unless a ticket was out for the same call before the run.
     ensures waits_alone { IfOk result (λ p. AllWaitAlone (L.awaited link.old) (L.awaited link.new) (L.log link.old) order.now p.turns.items) }
@@ -356,8 +361,11 @@ pub fn run_jobs<L: Link, I: IdSource>(
     // Over a link that tells its log each note says rightly whether its turn pended: one poll pended in it just where it says
     // so, and that of the newest command that its job sent up to then, by the notes.
     ensures polled { IfOk result (λ p. AllPollOwn (L.log link.old) order.now p.turns.items (L.polls link.old) (L.polls link.new)) }
-    // Over a link that tells its log, each command that a turn sent, by the notes, is one that its job may send.
-    ensures sends { IfOk result (λ p. AllSendOnly (I.ids ids.old) (L.log link.old) (L.log link.new) (tasks jobs.now) order.now p.turns.items) }
+    // Over a link that tells its log, each command that a turn sent, by the notes, is one that its job may send: chunks have
+    // the ids that their put drew, and a record has the moment.
+    ensures sends { IfOk result (λ p. AllSendOnly (supplied (I.ids ids.old) moment.millis) (L.log link.old) (L.log link.new) (tasks jobs.now) order.now p.turns.items) }
+    // Over a link that tells its log, no command of a job names a cursor that a command of another one opened.
+    ensures names { IfOk result (λ p. AllNameOwn (L.log link.old) (L.log link.new) order.now p.turns.items) }
     // The notes count what was started, and over a prompt link no turn pends.
     ensures started { IfOk result (λ p. StartedBy (sum_by (λ t. t.started) p.turns.items) (L.log link.old) (L.log link.new)) }
     ensures prompt { L.prompt link.old → IfOk result (λ p. All (λ t. t.pended ≡ false) p.turns.items) }

@@ -6,6 +6,7 @@ use Rattle.mg_link.specs.Link.{Awaited, LogTold}
 use Rattle.mg_link.specs.declared.error.Error.{Error}
 use Rattle.mg_link.proofs.Owners.{same_some}
 use Rattle.mg_link.proofs.Places.{get_set_other, get_set_same}
+use Rattle.mg_players.specs.Puts.{Supply}
 use Rattle.mg_players.specs.Playing.{IsSameFollow, job_ticket}
 use Rattle.mg_players.specs.Runs.{MayAllGo, AreNew, AreSameJobs, CanGo, Goes, IsNew, IsSameJob}
 use Rattle.mg_script.specs.Plan.{Task}
@@ -16,7 +17,7 @@ use Rattle.mg_players.specs.declared.player.Player.TheVariants as player
 not_out : (old : Awaited) (m : ℕ) → old m ≡ None → IsSome (old m) → ⊥
 not_out old m none out = let bad : false ≡ true = ap (λ o. is_some o) (sym none) ∙ out in cc
 
-module _ {so : Task → Type 0} (old new : Awaited) (log log' : LogTold) (wire : ℤ) (players : List Player) (k : ℕ) (p p' : Player) (at : slice_get players k ≡ Some p) (apart : MayAllGo old wire players) (goes : Goes so old new log log' wire p p') where
+module _ {so : Supply → Task → Type 0} (old new : Awaited) (log log' : LogTold) (wire : ℤ) (players : List Player) (k : ℕ) (p p' : Player) (at : slice_get players k ≡ Some p) (apart : MayAllGo old wire players) (goes : Goes so old new log log' wire p p') where
   pub which : (i : ℕ) (a : Player) → slice_get (slice_set players k p') i ≡ Some a → ((i ≡ k) × (p' ≡ a)) ⊎ ((i ≡ k → ⊥) × (slice_get players i ≡ Some a))
   which i a h =
       elim (cases_eq i k) [
@@ -64,7 +65,7 @@ module _ {so : Task → Type 0} (old new : Awaited) (log log' : LogTold) (wire :
   apart_turn = record { each = each_after; distinct = distinct_after }
 
 -- the same over a wire version that is the same
-pub stands_after : {so : Task → Type 0} (old new : Awaited) (log log' : LogTold) (wire wire' : ℤ) (players : List Player) (k : ℕ) (p p' : Player) → wire' ≡ wire → slice_get players k ≡ Some p → MayAllGo old wire players → Goes so old new log log' wire' p p' → MayAllGo new wire' (slice_set players k p')
+pub stands_after : {so : Supply → Task → Type 0} (old new : Awaited) (log log' : LogTold) (wire wire' : ℤ) (players : List Player) (k : ℕ) (p p' : Player) → wire' ≡ wire → slice_get players k ≡ Some p → MayAllGo old wire players → Goes so old new log log' wire' p p' → MayAllGo new wire' (slice_set players k p')
 stands_after old new log log' wire wire' players k p p' same at apart goes = apart_turn old new log log' wire' players k p p' at (subst (λ w. MayAllGo old w players) (sym same) apart) goes
 
 -- jobs that have done nothing are apart over any link

@@ -11,13 +11,13 @@ use Rattle.mg_script.specs.Plan as plan
 use Rattle.mg_script.specs.Plan.{Task}
 use Rattle.mg_ops.specs.Drawn.{AreLater, lacking, with_ids}
 use Rattle.mg_ops.proofs.Drawn.{ids_by, ids_from, later_on, later_same}
-use Rattle.mg_players.specs.Drawing.{DrawsAs, HadTurn, HaveDrawn, JobHadTurn, JobHasIds, as_sent, before_first, drawn_behind, drawn_in, draws, first_id, has_turn, next_draws, sent_from, turn_draws}
+use Rattle.mg_players.specs.Drawing.{DrawsAs, HadTurn, HaveDrawn, JobHadTurn, JobHasIds, as_sent, before_first, drawn_behind, drawn_in, draws, first_id, has_turn, next_draws, sent_from, supply_from, turn_draws}
 use Rattle.mg_players.specs.Headline.{AreFirst, DoTasks, IsFirst, task_of}
 use Rattle.mg_players.specs.Playing.{HasIds, inserts_ended}
 use Rattle.mg_players.specs.Progress.{IsPlayed}
 use Rattle.mg_players.specs.Runs.{has_ended}
 use Rattle.mg_players.specs.Drawing.{PutHadTurn, put_draws}
-use Rattle.mg_players.specs.Puts.{PutHasIds, PutTask, chunks_in, puts_ended, writes}
+use Rattle.mg_players.specs.Puts.{PutHasIds, PutTask, Supply, chunks_in, puts_ended, writes}
 use Rattle.mg_players.specs.declared.put.PutStage.{PutStage}
 use Rattle.mg_players.specs.declared.put.PutStage.TheVariants as puts
 use Rattle.mg_players.specs.declared.insert.InsertStage.{InsertStage}
@@ -212,13 +212,15 @@ job_had (player.Put job) has = put_had job.stage has
 job_had (player.Get job) has = tt
 
 -- what a job sends that has yet to draw its ids has those that the source gives next
-pub draws_as : (ids given : ℕ → List ℕ) (ts : List Task) (order : List ℕ) (j : ℕ) (p : Player) → AreLater ids (drawn_in ts order) given → JobHadTurn (has_turn j order) p → DrawsAs given p (sent_from ids (first_id ts order j) (task_of p))
-draws_as ids given ts order j (player.Insert job) stands had = λ unsent.
+pub draws_as : (supply : Supply) (given : ℕ → List ℕ) (ts : List Task) (order : List ℕ) (j : ℕ) (p : Player) → AreLater supply.ids (drawn_in ts order) given → JobHadTurn (has_turn j order) p → DrawsAs given p (supply_from supply (first_id ts order j)) (sent_from supply.ids (first_id ts order j) (task_of p))
+draws_as supply given ts order j (player.Insert job) stands had = λ unsent.
     let none : has_turn j order ≡ false = subst (HadTurn (has_turn j order)) unsent had in
-    sym (ids_from ids given (drawn_in ts order) job.documents.now stands ∙ ap (λ n. with_ids ids n job.documents.now) (sym (id_next ts j order none)))
-draws_as ids given ts order j (player.Follow job) stands had = tt
-draws_as ids given ts order j (player.Put job) stands had = tt
-draws_as ids given ts order j (player.Get job) stands had = tt
+    sym (ids_from supply.ids given (drawn_in ts order) job.documents.now stands ∙ ap (λ n. with_ids supply.ids n job.documents.now) (sym (id_next ts j order none)))
+draws_as supply given ts order j (player.Follow job) stands had = tt
+draws_as supply given ts order j (player.Put job) stands had = λ undrawn k.
+    let none : has_turn j order ≡ false = subst (PutHadTurn (has_turn j order)) undrawn had in
+    ap (λ n. supply.ids (n + k)) (id_next ts j order none) ∙ sym (stands k)
+draws_as supply given ts order j (player.Get job) stands had = tt
 
 -- a job that has ended draws nothing more
 pub ended_draws : (ids : ℕ → List ℕ) (p : Player) → has_ended p ≡ true → AreLater ids (turn_draws p) ids

@@ -30,8 +30,9 @@ use Rattle.mg_gridfs.specs.Findings.{ClientFinding, IsSoundFinding, Looking}
 use Rattle.mg_gridfs.specs.ReadCauses.{HeardRecord, IsOpening, LookingUnderway, cursor_in}
 use Rattle.mg_script.specs.declared.outcome.Ended.{Ended}
 use Rattle.mg_script.specs.declared.outcome.Ended.TheVariants as ended
+use Rattle.mg_players.specs.Asking.{AllAskOn}
 use Rattle.mg_players.specs.Causes as causes
-use Rattle.mg_players.specs.Causes.{AllSentIn, AreSentIn, AskForMore, Course, FallsAt, OpeningAsks, GetCaused, GetFails, GetOpened, GetSent, GetStands, GetWaits, places_of, sent_at}
+use Rattle.mg_players.specs.Causes.{AllSentIn, AreSentIn, Course, FallsAt, OpeningAsks, GetCaused, GetFails, GetOpened, GetSent, GetStands, GetWaits, places_of, sent_at}
 use Rattle.mg_players.specs.Gets.{GetTask, IsFindAt, IsOpeningFor, get_bucket, get_end, more_chunks, no_manner, room_of}
 use Rattle.mg_players.specs.Plays.{Places, all_places}
 use Rattle.mg_players.specs.Progress.{FitsReads, GetEndedAt, GetStageAt, pends_last, turns_done}
@@ -107,7 +108,7 @@ module _ (c : Course) (i : ℕ) (calls : List Call) (wire : ℤ) (q : Places) (g
   -- behind so many calls that gave so many bytes
   module _ (bytes : ℕ) (few : done ≤ bytes + 1) (fits : FitsReads bytes done g.read) where
     -- its turns sent these
-    all_sent : (k : ℕ) → done ≡ suc k → suc (length q.owns) ≡ done → AskForMore calls (concat q.owns ++ q.now) → GetSent c i calls g bytes q.opened k q.now
+    all_sent : (k : ℕ) → done ≡ suc k → suc (length q.owns) ≡ done → AllAskOn calls (all_places q) (concat q.owns ++ q.now) → GetSent c i calls g bytes q.opened k q.now
     all_sent k is counted more = record {
       owns = q.owns;
       counted = omega (arith, is, counted);
@@ -127,10 +128,10 @@ module _ (c : Course) (i : ℕ) (calls : List Call) (wire : ℤ) (q : Places) (g
     get_fails e turned (tells.out_of_memory room) = causes.out_of_memory room
     get_fails e turned (tells.has_no_room none is) = causes.has_no_room none is
     get_fails e turned (tells.not_opened some silent first fails) = causes.not_opened some q.now (subst (λ (n : ℕ). AllSentIn c i n q.now) first sent.now) fails (alone silent)
-    get_fails e turned (tells.not_read some more d at opened cursor fails its sound plain counted listed of why) =
+    get_fails e turned (tells.not_read some more d at opened cursor fails its sound plain counted listed of held why) =
         let n = above done more in
         causes.not_read some d (get_opened d.file at opened) n.0 (let is = n.1 in omega (arith, turned, is)) q.now (subst (λ (m : ℕ). AllSentIn c i m q.now) n.1 sent.now) cursor fails its sound plain (all_sent n.0 n.1 counted opened.more)
-        (record { places = all_places q; sent = all_own c i q done sent; listed = listed; by_opening = sent.opened listed of; why = why })
+        (record { places = all_places q; sent = all_own c i q done sent; listed = listed; by_opening = sent.opened listed of; held = held; why = why })
 
     get_end_caused : (awaited : Awaited) (end : Ended (Unit {0})) (at : Option ℕ) → GetEndedAt end done (turns_done i c.order c.notes) → TellsGetEnd calls wire q g done at end → GetCaused awaited c i calls wire g bytes end
     get_end_caused awaited ended.Unfinished at turned t = absurd turned

@@ -49,10 +49,11 @@ use Rattle.mg_gridfs.proofs.Downloading.{next_named, next_rests, same_cursor, ta
 use Rattle.mg_gridfs.proofs.Fronts.{nobody_onward}
 use Rattle.mg_gridfs.proofs.Received.{batch_is, received_behind, reply_documents}
 use Rattle.mg_players.specs.Gets.{GetTask, chunks_find}
-use Rattle.mg_players.specs.Spares as stops
-use Rattle.mg_players.specs.Spares.{IsListed, IsQueried, ReadStops, SparesWhole, WherePrompt, empties}
-use Rattle.mg_players.proofs.GetListing.{batch_fine, batch_there, documents_same, documents_there, list_asks, list_step, more_step, spared_by, told_named}
-use Rattle.mg_players.proofs.GetSpared.{listed_grow}
+use Rattle.mg_players.specs.Reading as stops
+use Rattle.mg_players.specs.Reading.{IsListed, IsQueried, ListsOther, ReadStops, WherePrompt, empties}
+use Rattle.mg_players.proofs.GetDiffering.{batch_differs}
+use Rattle.mg_players.proofs.GetListing.{batch_there, differs_by, documents_same, documents_there, list_asks, list_step, more_step, told_named}
+use Rattle.mg_players.proofs.GetReading.{listed_grow}
 use Rattle.mg_players.proofs.GetSteps.{more_over, more_same, prompt_at, query_at, query_prompt}
 
 -- ---- one poll
@@ -221,19 +222,12 @@ none_received : (f : FileRecord) (n : ℕ) (cs : List (List ℕ)) (ds : List Fie
 none_received f n cs [] is a = refl
 none_received f n cs (d ∷ ds) is a = absurd (subst (λ (l : List (List ℕ)). AreReceived f n l (d ∷ ds)) is a)
 
--- as many documents as chunks
-pub received_many : (f : FileRecord) (n : ℕ) (cs : List (List ℕ)) (ds : List Fields) → AreReceived f n cs ds → length cs ≡ length ds
-received_many f n [] [] a = refl
-received_many f n [] (d ∷ ds) a = absurd a
-received_many f n (c ∷ cs) [] a = absurd a
-received_many f n (c ∷ cs) (d ∷ ds) a = ap suc (received_many f (suc n) cs ds a.1)
-
 module _ (g : GetTask) (P : List ℕ) (L : ℕ) (wire : ℤ) (bytes : List ℕ) (place listed : ℕ) where
   -- what has come of it
   abbrev pub FetchStops : Awaited → List Call → ClientDownload → ClientDownload → Fetched → Type 0
   FetchStops new calls d d' waits = (c : ClientCursor) × (m : ℕ) × (k : ℕ) × (d'.doing ≡ reads c m k) × IsListed (past_of P L calls wire) g d.file k c
   FetchStops new calls d d' enough = (c : ClientCursor) × (d'.doing ≡ idle c) × IsListed (past_of P L calls wire) g d.file 0 c
-  FetchStops new calls d d' (fails e) = ReadStops (past_of P L calls wire) (SparesWhole calls g.at g.id d.file listed) e
+  FetchStops new calls d d' (fails e) = ReadStops (past_of P L calls wire) (ListsOther calls g.at d.file listed e) e
 
   pub record FetchStopped (log' : LogTold) (new : Awaited) (d d' : ClientDownload) (f : Fetched) : Type 0 where
     pub calls' : List Call
@@ -295,29 +289,27 @@ module _ (g : GetTask) (P : List ℕ) (L : ℕ) (wire : ℤ) (bytes : List ℕ) 
       abbrev reader' : Reader
       reader' = reader_in new behind (told_next (next.Batch reply) s.know.reader)
 
-      given_many : length s.know.reader.given ≡ d.taken
-      given_many = sym (received_many d.file 0 s.know.chunks s.know.reader.given s.know.received) ∙ sym s.know.taken
-
       legal_batch : (history : List Step) → IsLegal history → Stands p.calls' history → (b : Batch) × (batch_of (fields reply) ≡ Some b)
       legal_batch = batch_legal g (past_of P L p.calls' wire) d.file k c p.lists reply p.came
 
-      spares_none : (e : Error) → NoBatchIn (fields reply) e → SparesWhole p.calls' g.at g.id d.file listed
-      spares_none e none =
-          spared_by p.calls' g.at g.id d.file listed reader' p.knows s.know.none_lost s.know.queries s.know.asked_at
-          (λ whole size long same some left are history legal stands over_so. let b = legal_batch history legal stands in batch_there reply b.0 e b.1 none)
+      -- that is not so in a legal history
+      none_there : (e : Error) → NoBatchIn (fields reply) e → ListsOther p.calls' g.at d.file listed e
+      none_there e none =
+          differs_by p.calls' g.at d.file listed reader' p.knows s.know.none_lost s.know.queries s.know.asked_at p.lists.named d.count s.counted e
+          (λ left history legal stands over_so. let b = legal_batch history legal stands in absurd (batch_there reply b.0 e b.1 none))
 
-      spares_differs : (e : Error) (batch : Items) → batch_at (fields reply) ≡ Ok batch → all_judged d.file d.taken batch ≡ Err e → SparesWhole p.calls' g.at g.id d.file listed
-      spares_differs e batch at bad =
-          spared_by p.calls' g.at g.id d.file listed reader' p.knows s.know.none_lost s.know.queries s.know.asked_at
-          (λ whole size long same some left are history legal stands over_so.
+      one_there : (e : Error) (batch : Items) → batch_at (fields reply) ≡ Ok batch → all_judged d.file d.taken batch ≡ Err e → ListsOther p.calls' g.at d.file listed e
+      one_there e batch at bad =
+          differs_by p.calls' g.at d.file listed reader' p.knows s.know.none_lost s.know.queries s.know.asked_at p.lists.named d.count s.counted e
+          (λ left history legal stands over_so.
           let b = legal_batch history legal stands in
-          batch_fine d.file d.count whole size long same some s.counted s.know.reader.given (batch_documents reply) ([] ++ in_reply behind.doing) left are batch (documents_there reply b.0 batch b.1 at) e (ap (λ (n : ℕ). all_judged d.file n batch) given_many ∙ bad))
+          batch_differs d.file d.count s.know.chunks s.know.reader.given (batch_documents reply) ([] ++ in_reply behind.doing) left s.know.received batch (documents_there reply b.0 batch b.1 at) e (ap (λ (n : ℕ). all_judged d.file n batch) (sym s.know.taken) ∙ bad))
 
-      stops_so : (e : Error) → (c.doing ≡ client.holds reply) ⊎ (c.id ≢ pos 0) → (e ≡ plain kind.OutOfMemory) ⊎ SpoilsBatch k reply d e → ReadStops (past_of P L p.calls' wire) (SparesWhole p.calls' g.at g.id d.file listed) e
+      stops_so : (e : Error) → (c.doing ≡ client.holds reply) ⊎ (c.id ≢ pos 0) → (e ≡ plain kind.OutOfMemory) ⊎ SpoilsBatch k reply d e → ReadStops (past_of P L p.calls' wire) (ListsOther p.calls' g.at d.file listed e) e
       stops_so e from (inl memory) = stops.no_memory (ap (λ (x : Error). x.kind) memory)
-      stops_so e from (inr (steps.no_batch none)) = stops.differs (spares_none e none)
-      stops_so e from (inr (steps.differs batch at bad)) = stops.differs (spares_differs e batch at bad)
-      stops_so e from (inr (steps.too_many none many is)) = stops.too_many (never_many g (past_of P L p.calls' wire) d.file k c p.lists reply from many)
+      stops_so e from (inr (steps.no_batch none)) = stops.differs (none_there e none)
+      stops_so e from (inr (steps.differs batch at bad)) = stops.differs (one_there e batch at bad)
+      stops_so e from (inr (steps.too_many none many is)) = stops.too_many (never_many g (past_of P L p.calls' wire) d.file k c p.lists reply from many) is
 
     -- what ends the taking
     ends_stopped : (f : Fetched) → EndsFetch old new log log' wire d d' f → FetchStopped log' new d d' f
@@ -353,7 +345,7 @@ module _ (g : GetTask) (P : List ℕ) (L : ℕ) (wire : ℤ) (bytes : List ℕ) 
         let p = polled started behind (next.Failed e) (at_c started x behind (next.Failed e) m' k' there polls) in
         record { calls' = p.calls'; told = p.told; after = subst (FetchStops new p.calls' d d') (sym answer) (why_none p) }
       where
-        why_none : (p : PolledTo behind (next.Failed e)) → ReadStops (past_of P L p.calls' wire) (SparesWhole p.calls' g.at g.id d.file listed) e
+        why_none : (p : PolledTo behind (next.Failed e)) → ReadStops (past_of P L p.calls' wire) (ListsOther p.calls' g.at d.file listed e) e
         why_none p = elim p.came [
           | inl cannot ↦ elim cannot [
             | inl memory ↦ stops.no_memory (ap (λ (y : Error). y.kind) memory)
@@ -435,7 +427,7 @@ module _ (g : GetTask) (P : List ℕ) (L : ℕ) (wire : ℤ) (bytes : List ℕ) 
   fetch_file : (new : Awaited) (calls : List Call) (d d1 d' : ClientDownload) (f : Fetched) → d1.file ≡ d.file → FetchStops new calls d1 d' f → FetchStops new calls d d' f
   fetch_file new calls d d1 d' waits same h = (h.0, h.1, h.2, h.3, subst (λ (f : FileRecord). IsListed (past_of P L calls wire) g f h.2 h.0) same h.4)
   fetch_file new calls d d1 d' enough same h = (h.0, h.1, subst (λ (f : FileRecord). IsListed (past_of P L calls wire) g f 0 h.0) same h.2)
-  fetch_file new calls d d1 d' (fails e) same h = subst (λ (f : FileRecord). ReadStops (past_of P L calls wire) (SparesWhole calls g.at g.id f listed) e) same h
+  fetch_file new calls d d1 d' (fails e) same h = subst (λ (f : FileRecord). ReadStops (past_of P L calls wire) (ListsOther calls g.at f listed e) e) same h
 
   pub fetches_stopped : (n : ℕ) (old new : Awaited) (log log' : LogTold) (calls : List Call) (d d' : ClientDownload) (c : ClientCursor) (m k : ℕ) (f : Fetched) → StandsAt old log calls d c m k → Fetches n old new log log' wire d d' f → FetchStopped log' new d d' f
   unfolding Fetches

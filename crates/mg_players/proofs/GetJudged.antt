@@ -1,12 +1,12 @@
--- What the record of a whole file says, and that its chunks are in order by it.
-use Rattle.std.proofs.Common.{◌≡◌, ◌<◌, ◌++◌, ◌+◌, ℕ, ℤ, zero, suc, pos, Bool, true, false, List, [], ◌∷◌, length, Option, Some, None, Result, Ok, Err, refl, sym, ap, ◌∙◌, subst, arith, append_assoc, length-append, option_map}
-use Rattle.std.specs.Prelude.{◌==◌, ◌^◌, codes, if◌then◌else◌, ltb, option_and_then, slice_get}
+-- What the record of a whole file says, and that each of its chunks is in order by it.
+use Rattle.std.proofs.Common.{◌≡◌, ◌<◌, ◌++◌, ◌+◌, ℕ, ℤ, zero, suc, pos, Bool, true, false, List, [], ◌∷◌, length, Option, Some, None, Result, Ok, Err, refl, sym, ap, ◌∙◌, subst, arith, option_map}
+use Rattle.std.specs.Prelude.{◌==◌, ◌^◌, codes, if◌then◌else◌, ltb, option_and_then}
 use Rattle.std.proofs.lemmas.Bool.Decides.{Decides-int_eq}
 use Rattle.std.proofs.lemmas.Bool.{eq-eqb}
 use Rattle.mg_bson.specs.Find.{as_binary, as_date_time, as_document, as_int32, as_string, get}
 use Rattle.mg_bson.specs.Reading.{◌>>=◌}
-use Rattle.mg_bson.specs.Tree.{Fields, Items, Tree, item, no_items}
-use Rattle.mg_link.specs.Commands.{as_count, as_integer, count_of, documents_in}
+use Rattle.mg_bson.specs.Tree.{Fields, Tree}
+use Rattle.mg_link.specs.Commands.{as_count, as_integer, count_of}
 use Rattle.mg_link.specs.Files.{AreChunks, Bucket, IsChunk, IsWhole, file_of, files_space, has_value, number_at}
 use Rattle.mg_link.specs.Filter.{meets}
 use Rattle.mg_link.specs.State.{State}
@@ -14,10 +14,9 @@ use Rattle.mg_link.specs.Step.{documents_of}
 use Rattle.mg_link.specs.declared.error.Malformed.{Malformed}
 use Rattle.mg_link.specs.declared.error.Malformed.TheVariants as malformed
 use Rattle.mg_link.proofs.Owners.{same_some}
-use Rattle.mg_link.proofs.Places.{get_seam}
 use Rattle.mg_records.specs.FileRecords.{FileRecord, Numbers, chunk_count, chunk_count_of, chunk_length, chunk_length_of, counted, file_fields, file_numbers, file_record_of, small_count, where_counted, with_chunks}
 use Rattle.mg_records.specs.Readings.{any_value, needed, optional}
-use Rattle.mg_gridfs.specs.Downloads.{all_judged, and_then, data_of, judged, missing_chunk, needed_as, numbered_as, of_subtype_0, sized_as, wrong_size}
+use Rattle.mg_gridfs.specs.Downloads.{and_then, data_of, judged, missing_chunk, needed_as, numbered_as, of_subtype_0, sized_as, wrong_size}
 use Rattle.mg_gridfs.specs.Laws.{CutsAsCounted}
 use Rattle.mg_gridfs.proofs.Counting.{cuts_are_counted}
 use Rattle.mg_gridfs.proofs.OneFile.{first_meets, one_file, same_key}
@@ -171,43 +170,17 @@ chunk_fine f n b d count is counts long =
 
 -- ---- chunks, one behind another
 
-record IsPaired {A : Type 0} (first : Option A) (rest : Option (List A)) (xs : List A) : Type 0 where
-  x : A
-  more : List A
-  first_is : first ≡ Some x
-  rest_is : rest ≡ Some more
-  these : x ∷ more ≡ xs
+pub record IsPaired {A : Type 0} (first : Option A) (rest : Option (List A)) (xs : List A) : Type 0 where
+  pub x : A
+  pub more : List A
+  pub first_is : first ≡ Some x
+  pub rest_is : rest ≡ Some more
+  pub these : x ∷ more ≡ xs
 
-paired : {A : Type 0} (first : Option A) (rest : Option (List A)) (xs : List A) → option_and_then (λ (x : A). option_map (λ (l : List A). x ∷ l) rest) first ≡ Some xs → IsPaired first rest xs
+pub paired : {A : Type 0} (first : Option A) (rest : Option (List A)) (xs : List A) → option_and_then (λ (x : A). option_map (λ (l : List A). x ∷ l) rest) first ≡ Some xs → IsPaired first rest xs
 paired None rest xs h = absurd cc
 paired (Some x) None xs h = absurd cc
 paired {A} (Some x) (Some more) xs h = record { x = x; more = more; first_is = refl; rest_is = refl; these = same_some (x ∷ more) xs h }
-
--- the first of them is in order, and so are the others behind it
-next_fine : (f : FileRecord) (count : ℕ) (cut : List (List ℕ)) → chunk_count_of f.length f.chunk_size ≡ Ok count → ((n : ℕ) (chunk : List ℕ) → slice_get cut n ≡ Some chunk → length chunk ≡ chunk_length f.length f.chunk_size n) → (before cs : List (List ℕ)) (ts : Items) (o : Option Fields) (d : Fields) (more left : List Fields) → o ≡ Some d → documents_in ts ≡ Some more
-    → cut ≡ before ++ cs → AreChunks (length before) cs ((d ∷ more) ++ left) → ((b r : List (List ℕ)) → cut ≡ b ++ r → AreChunks (length b) r (more ++ left) → (chunks : List (List ℕ)) × (all_judged f (length b) ts ≡ Ok chunks))
-    → (chunks : List (List ℕ)) × (and_then (needed_as malformed.BadItem o) (λ d. and_then (judged f (length before) d) (λ bytes. and_then (all_judged f (suc (length before)) ts) (λ more. Ok (bytes ∷ more)))) ≡ Ok chunks)
-next_fine f count cut counts each before [] ts o d more left first others same are go = absurd are
-next_fine f count cut counts each before (c ∷ cs) ts o d more left first others same are go =
-    let there : slice_get cut (length before) ≡ Some c = ap (λ (l : List (List ℕ)). slice_get l (length before)) same ∙ get_seam before cs c in
-    let fine = chunk_fine f (length before) c d count are.0 counts (each (length before) c there) in
-    let next : length (before ++ c ∷ []) ≡ suc (length before) = (let e = length-append before (c ∷ []) in omega arith) in
-    let rest_fine = go (before ++ c ∷ []) cs (same ∙ sym (append_assoc before (c ∷ []) cs)) (subst (λ (n : ℕ). AreChunks n cs (more ++ left)) (sym next) are.1) in
-    let rest_is : all_judged f (suc (length before)) ts ≡ Ok rest_fine.0 = subst (λ (n : ℕ). all_judged f n ts ≡ Ok rest_fine.0) next rest_fine.1 in (
-      c ∷ rest_fine.0,
-      ap (λ (x : Option Fields). and_then (needed_as malformed.BadItem x) (λ d. and_then (judged f (length before) d) (λ bytes. and_then (all_judged f (suc (length before)) ts) (λ more. Ok (bytes ∷ more))))) first
-          ∙ ap (λ r. and_then r (λ bytes. and_then (all_judged f (suc (length before)) ts) (λ more. Ok (bytes ∷ more)))) fine
-          ∙ ap (λ r. and_then r (λ more. Ok (c ∷ more))) rest_is,
-    )
-
--- the documents of a batch that are the chunks of a file from a number on are in order by its record
-pub all_fine : (f : FileRecord) (count : ℕ) (cut : List (List ℕ)) → chunk_count_of f.length f.chunk_size ≡ Ok count → ((n : ℕ) (chunk : List ℕ) → slice_get cut n ≡ Some chunk → length chunk ≡ chunk_length f.length f.chunk_size n) → (before rest : List (List ℕ)) (batch : Items) (ds left : List Fields) → cut ≡ before ++ rest
-    → documents_in batch ≡ Some ds → AreChunks (length before) rest (ds ++ left) → (chunks : List (List ℕ)) × (all_judged f (length before) batch ≡ Ok chunks)
-all_fine f count cut counts each before rest no_items ds left is these are = ([], refl)
-all_fine f count cut counts each before rest (item t ts) ds left is these are =
-    let p = paired (as_document t) (documents_in ts) ds these in
-    next_fine f count cut counts each before rest ts (as_document t) p.x p.more left p.first_is p.rest_is is (subst (λ (l : List Fields). AreChunks (length before) rest (l ++ left)) (sym p.these) are)
-    (λ b r same more_are. all_fine f count cut counts each b r ts p.more left same p.rest_is more_are)
 
 -- chunks and what is behind them, cut at the same place
 pub record AreCut (cut : List (List ℕ)) (xs ys : List Fields) : Type 0 where

@@ -33,7 +33,7 @@ use Rattle.mg_gridfs.specs.Findings as findings
 use Rattle.mg_gridfs.specs.Findings.{BeginsFind, ClientFinding, FindsOn, HearsList, HearsRecord, IsSoundFinding, ListsOn, Looking, Opened, Opens, OpensFile, SoundIn}
 use Rattle.mg_gridfs.specs.ReadCauses.{IsOpening, LookingUnderway, cursor_in}
 use Rattle.mg_players.specs.Gets.{AsksPlainly, GetTask, chunks_find}
-use Rattle.mg_players.specs.Spares.{IsListOf, IsListed, ListsIts, empties}
+use Rattle.mg_players.specs.Reading.{IsListOf, IsListed, ListsIts, empties}
 use Rattle.mg_players.proofs.GetListing.{list_asks, list_step}
 use Rattle.mg_players.proofs.GetSending.{listed_same}
 use Rattle.mg_players.proofs.GetSteps.{query_opened}

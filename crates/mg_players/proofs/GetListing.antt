@@ -1,12 +1,12 @@
 -- What the list of a file's chunks says in a legal history.
-use Rattle.std.proofs.Common.{◌≡◌, ◌<◌, ◌++◌, ◌+◌, ◌-◌, ◌&&◌, ℕ, suc, pos, Bool, true, false, List, [], ◌∷◌, length, take, filter, Option, Some, None, Result, Ok, Err, refl, sym, ap, ◌∙◌, subst, arith, append_assoc, if◌then◌else◌}
+use Rattle.std.proofs.Common.{◌≡◌, ◌++◌, ◌+◌, ◌&&◌, ℕ, suc, pos, Bool, true, false, List, [], ◌∷◌, length, take, filter, Option, Some, None, Result, Ok, refl, sym, ap, ◌∙◌, subst, if◌then◌else◌}
 use Rattle.std.specs.Prelude.{codes, option_and_then, slice_get, unwrap_or}
 use Rattle.mg_bson.specs.Raw.{fields}
 use Rattle.mg_bson.specs.Tree.{Fields, Items, Tree}
 use Rattle.mg_link.specs.Calls.{Past}
 use Rattle.mg_link.specs.Commands.{Batch, asked, asks_query, batch_of, documents_in}
 use Rattle.mg_link.specs.Exec.{IsSuccess}
-use Rattle.mg_link.specs.Files.{AreChunks, Bucket, File, by_number, chunked, chunks_space, file_of, has_value, with_value}
+use Rattle.mg_link.specs.Files.{Bucket, by_number, chunks_space, file_of, has_value, with_value}
 use Rattle.mg_link.specs.Filter.{Condition, matches, meets}
 use Rattle.mg_link.specs.History.{IsLegal, Step, state_of}
 use Rattle.mg_link.specs.Log.{Call}
@@ -18,9 +18,7 @@ use Rattle.mg_link.specs.State.{State}
 use Rattle.mg_link.specs.Step.{documents_of}
 use Rattle.mg_link.specs.declared.error.Error.{Error}
 use Rattle.mg_link.specs.declared.error.Malformed.{Malformed}
-use Rattle.mg_link.proofs.Files.{quiet_stays}
 use Rattle.mg_link.proofs.Owners.{same_some}
-use Rattle.mg_link.proofs.Places.{get_within}
 use Rattle.mg_ops.specs.Cursors.{batch_at}
 use Rattle.mg_ops.specs.Naming.{IsNamed}
 use Rattle.mg_ops.proofs.Asking.{asks_for_more}
@@ -29,15 +27,13 @@ use Rattle.mg_cursor.specs.Batches.{NoBatchIn}
 use Rattle.mg_cursor.specs.Causes.{HeardMore}
 use Rattle.mg_cursor.specs.Client.{ClientCursor, get_more}
 use Rattle.mg_cursor.specs.Reading.{batch_documents}
-use Rattle.mg_records.specs.FileRecords.{FileRecord, chunk_count_of, chunk_length}
+use Rattle.mg_records.specs.FileRecords.{FileRecord, chunk_count_of}
 use Rattle.mg_gridfs.specs.Downloaded.{IsPlainAt, chunks_query}
-use Rattle.mg_gridfs.specs.Downloads.{all_judged}
 use Rattle.mg_gridfs.proofs.Fronts.{all_known, all_opened, front_known, front_opened}
 use Rattle.mg_gridfs.proofs.OpeningKnown.{listed_asks}
 use Rattle.mg_players.specs.Gets.{GetTask, chunks_find, get_bucket}
-use Rattle.mg_players.specs.Spares.{IsListOf, IsTold, SparesWhole}
+use Rattle.mg_players.specs.Reading.{Differ, IsListOf, IsTold, ListsOther}
 use Rattle.mg_players.proofs.Batches.{events_read, read_as}
-use Rattle.mg_players.proofs.GetJudged.{all_fine, are_cut, whole_counts, whole_says}
 use Rattle.mg_players.proofs.GetSteps.{GivesBatch, OpensBatch, TookStep, more_gives, query_opens, took}
 use Rattle.mg_players.proofs.Naming.{files_named}
 use Rattle.mg_players.proofs.Prompting.{lawful_at}
@@ -48,7 +44,7 @@ and_true : (t : Bool) → (t && true) ≡ t
 and_true true = refl
 and_true false = refl
 
-those_same : (c : Condition) (ds : List Fields) → filter (matches (c ∷ [])) ds ≡ filter (meets c) ds
+pub those_same : (c : Condition) (ds : List Fields) → filter (matches (c ∷ [])) ds ≡ filter (meets c) ds
 those_same c [] = refl
 those_same c (d ∷ ds) =
     ap (λ (t : Bool). if t then d ∷ filter (matches (c ∷ [])) ds else filter (matches (c ∷ [])) ds) (and_true (meets c d))
@@ -98,47 +94,42 @@ module _ (past : Past) (history : List Step) (legal : IsLegal history) (stands :
 
 -- ---- what is received is what stands there
 
--- the documents received first are the first chunks of a file that was whole
-module _ (calls : List Call) (at : Bucket) (id : Tree) (f : FileRecord) (listed : ℕ) (r : Reader) (k : KnowsRead calls r) (none_lost : r.losses ≡ 0) (queries : r.query ≡ chunks_query (chunks_space at) f.id) (asked_at : r.opened ≡ listed) where
-  pub spared_by : ((whole : List ℕ) (size : ℕ) → length whole ≡ f.length → size ≡ f.chunk_size → 0 < f.chunk_size → (left : List Fields) → AreChunks 0 (chunked size whole) ((r.given ++ r.ahead) ++ left)
-      → (history : List Step) → IsLegal history → Stands calls history → (r.cursor ≡ pos 0 → r.query.single ≡ false → r.refused ≡ false → left ≡ []) → ⊥) → SparesWhole calls at id f listed
-  spared_by never = record {
-    call = k.opened.call;
-    there = subst (λ (n : ℕ). slice_get calls n ≡ Some k.opened.call) asked_at k.opened.found;
-    bytes = k.opened.bytes;
-    heard = k.opened.heard;
-    never = λ history legal stands whole size from upto w read leaves between.
-        let says = whole_says (state_of (take from history)) at id whole size f w read in
-        let there = subst (λ (n : ℕ). slice_get calls n ≡ Some k.opened.call) asked_at k.opened.found in
-        let placed = stands.placed r.opened k.opened.call k.opened.bytes k.opened.found k.opened.heard in
-        let position : ℕ = placed.0 in
-        let here = between k.opened.call position there placed.1 in
-        let low = here.0 in
-        let high = here.1 in
-        let step = stands.same r.opened k.opened.call position k.opened.found placed.1 in
-        let within : position < length history = get_within history position step.0 step.1 in
-        let n : ℕ = suc position - from in
-        let all : from + n ≡ suc position = omega (arith, low) in
-        let same : file_of (state_of (take (suc position) history)) at id ≡ file_of (state_of (take from history)) at id
-        = subst (λ (m : ℕ). file_of (state_of (take m history)) at id ≡ file_of (state_of (take from history)) at id) all
-        (quiet_stays history at id from n (omega (arith, all, within)) (λ p own lower higher found. leaves p own lower (omega (arith, all, high, higher)) found)) in
-        let front = front_known calls r (r.given ++ r.ahead) k none_lost refl in
-        let e = front.each history legal stands in
-        let at_same : e.0 ≡ position = same_some e.0 position (sym e.1 ∙ ap (λ (c : Call). c.position) (same_call front.place front.call front.found (front_opened calls r (r.given ++ r.ahead) k none_lost refl)) ∙ placed.1) in
-        let read_is : result (state_of (take (suc position) history)) (chunks_query (chunks_space at) f.id) ≡ Some ((r.given ++ r.ahead) ++ e.2)
-        = subst (λ (q : Query). result (state_of (take (suc position) history)) q ≡ Some ((r.given ++ r.ahead) ++ e.2)) queries (subst (λ (m : ℕ). result (state_of (take (suc m) history)) r.query ≡ Some ((r.given ++ r.ahead) ++ e.2)) at_same e.3) in
-        let stood = chunks_are (state_of (take (suc position) history)) at f.id ((r.given ++ r.ahead) ++ e.2) read_is in
-        let chunks_there : (file_of (state_of (take from history)) at id).chunks ≡ (r.given ++ r.ahead) ++ e.2
-        = ap (λ (x : File). x.chunks) (sym same) ∙ ap (λ (x : File). x.chunks) (sym (says.one (state_of (take (suc position) history)))) ∙ stood in
-        never whole size says.length_is says.size_is says.some e.2 (subst (AreChunks 0 (chunked size whole)) chunks_there w.chunks_are) history legal stands
-        (λ none many fine.
-        let whole_front = all_known calls r (r.given ++ r.ahead) k none_lost refl many fine none in
-        let x = whole_front.each history legal stands in
-        let same_too : x.0 ≡ position = same_some x.0 position (sym x.1 ∙ ap (λ (c : Call). c.position) (same_call whole_front.place whole_front.call whole_front.found (all_opened calls r (r.given ++ r.ahead) k none_lost refl many fine none)) ∙ placed.1) in
-        let both : Some ((r.given ++ r.ahead) ++ e.2) ≡ Some ((r.given ++ r.ahead) ++ x.2)
-        = sym e.3 ∙ ap (λ (m : ℕ). result (state_of (take (suc m) history)) r.query) (at_same ∙ sym same_too) ∙ x.3 in
-        same_tail (r.given ++ r.ahead) e.2 x.2 (same_some ((r.given ++ r.ahead) ++ e.2) ((r.given ++ r.ahead) ++ x.2) both) ∙ x.4 refl);
-  }
+-- the documents received first are the first of the chunks that stood; where these differ from the record, the list says so
+module _ (calls : List Call) (at : Bucket) (f : FileRecord) (listed : ℕ) (r : Reader) (k : KnowsRead calls r) (none_lost : r.losses ≡ 0) (queries : r.query ≡ chunks_query (chunks_space at) f.id) (asked_at : r.opened ≡ listed) where
+  pub differs_by : IsNamed (chunks_space at) → (count : ℕ) → chunk_count_of f.length f.chunk_size ≡ Ok count → (e : Error)
+      → ((left : List Fields) (history : List Step) → IsLegal history → Stands calls history → (r.cursor ≡ pos 0 → r.query.single ≡ false → r.refused ≡ false → left ≡ []) → Differ f count ((r.given ++ r.ahead) ++ left) e) → ListsOther calls at f listed e
+  differs_by named count counted e differ =
+      record {
+        named = named;
+        call = k.opened.call;
+        there = subst (λ (n : ℕ). slice_get calls n ≡ Some k.opened.call) asked_at k.opened.found;
+        asks = subst (λ (q : Query). asked k.opened.call.command ≡ asks_query q) queries k.opened.queries;
+        bytes = k.opened.bytes;
+        heard = k.opened.heard;
+        count = count;
+        counted = counted;
+        differ = λ history legal stands.
+            let placed = stands.placed r.opened k.opened.call k.opened.bytes k.opened.found k.opened.heard in
+            let position : ℕ = placed.0 in
+            let front = front_known calls r (r.given ++ r.ahead) k none_lost refl in
+            let y = front.each history legal stands in
+            let at_same : y.0 ≡ position = same_some y.0 position (sym y.1 ∙ ap (λ (c : Call). c.position) (same_call front.place front.call front.found (front_opened calls r (r.given ++ r.ahead) k none_lost refl)) ∙ placed.1) in
+            let read_is : result (state_of (take (suc position) history)) (chunks_query (chunks_space at) f.id) ≡ Some ((r.given ++ r.ahead) ++ y.2)
+            = subst (λ (q : Query). result (state_of (take (suc position) history)) q ≡ Some ((r.given ++ r.ahead) ++ y.2)) queries (subst (λ (m : ℕ). result (state_of (take (suc m) history)) r.query ≡ Some ((r.given ++ r.ahead) ++ y.2)) at_same y.3) in
+            let stood = chunks_are (state_of (take (suc position) history)) at f.id ((r.given ++ r.ahead) ++ y.2) read_is in (
+              position,
+              placed.1,
+              subst (λ (ds : List Fields). Differ f count ds e) (sym stood)
+                  (differ y.2 history legal stands
+                  (λ none many fine.
+                  let whole_front = all_known calls r (r.given ++ r.ahead) k none_lost refl many fine none in
+                  let x = whole_front.each history legal stands in
+                  let same_too : x.0 ≡ position = same_some x.0 position (sym x.1 ∙ ap (λ (c : Call). c.position) (same_call whole_front.place whole_front.call whole_front.found (all_opened calls r (r.given ++ r.ahead) k none_lost refl many fine none)) ∙ placed.1) in
+                  let both : Some ((r.given ++ r.ahead) ++ y.2) ≡ Some ((r.given ++ r.ahead) ++ x.2)
+                  = sym y.3 ∙ ap (λ (m : ℕ). result (state_of (take (suc m) history)) r.query) (at_same ∙ sym same_too) ∙ x.3 in
+                  same_tail (r.given ++ r.ahead) y.2 x.2 (same_some ((r.given ++ r.ahead) ++ y.2) ((r.given ++ r.ahead) ++ x.2) both) ∙ x.4 refl)),
+            );
+      }
     where
       same_call : (place : ℕ) (call : Call) → slice_get calls place ≡ Some call → place ≡ r.opened → call ≡ k.opened.call
       same_call place call found is = same_some call k.opened.call (sym found ∙ ap (λ (n : ℕ). slice_get calls n) is ∙ k.opened.found)
@@ -146,19 +137,6 @@ module _ (calls : List Call) (at : Bucket) (id : Tree) (f : FileRecord) (listed 
       same_tail : (xs ys zs : List Fields) → xs ++ ys ≡ xs ++ zs → ys ≡ zs
       same_tail [] ys zs is = is
       same_tail (x ∷ xs) ys zs is = same_tail xs ys zs (let e : x ∷ (xs ++ ys) ≡ x ∷ (xs ++ zs) = is in cc)
-
--- a batch of such chunks is in order
-pub batch_fine : (f : FileRecord) (count : ℕ) (whole : List ℕ) (size : ℕ) → length whole ≡ f.length → size ≡ f.chunk_size → 0 < f.chunk_size → chunk_count_of f.length f.chunk_size ≡ Ok count → (given documents tail left : List Fields) → AreChunks 0 (chunked size whole) (((given ++ documents) ++ tail) ++ left)
-    → (batch : Items) → documents_in batch ≡ Some documents → (e : Error) → all_judged f (length given) batch ≡ Err e → ⊥
-batch_fine f count whole size long same some counts given documents tail left are batch these e bad =
-    let parts : ((given ++ documents) ++ tail) ++ left ≡ given ++ (documents ++ (tail ++ left)) = append_assoc (given ++ documents) tail left ∙ append_assoc given documents (tail ++ left) in
-    let cut = are_cut (chunked size whole) given (documents ++ (tail ++ left)) (subst (AreChunks 0 (chunked size whole)) parts are) in
-    let counted = whole_counts whole size f long same some in
-    let each : (n : ℕ) (chunk : List ℕ) → slice_get (chunked size whole) n ≡ Some chunk → length chunk ≡ chunk_length f.length f.chunk_size n
-    = λ n chunk there. counted.each n chunk there ∙ ap (λ (m : ℕ). chunk_length m size n) long ∙ ap (λ (m : ℕ). chunk_length f.length m n) same in
-    let fine = all_fine f count (chunked size whole) counts each cut.before cut.rest batch documents (tail ++ left) cut.these these cut.are in
-    let both : ◌≡◌ {A = Result (List (List ℕ)) Error} (Ok fine.0) (Err e) = sym fine.1 ∙ ap (λ (n : ℕ). all_judged f n batch) cut.long ∙ bad in
-    cc
 
 -- ---- the documents of a batch
 

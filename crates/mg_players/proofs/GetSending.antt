@@ -61,9 +61,9 @@ listed_same g b id is = rw (is.place.chunks, is.no_concern, is.no_criteria) refl
 -- ---- a batch of a read
 
 -- it reads plainly on
-record IsPlainCursor (c : ClientCursor) : Type 0 where
-  sound : IsSound true c
-  manner : c.manner ≡ no_manner
+pub record IsPlainCursor (c : ClientCursor) : Type 0 where
+  pub sound : IsSound true c
+  pub manner : c.manner ≡ no_manner
 
 module _ (old new : Awaited) (log log' : LogTold) (wire : ℤ) (started : Bool) (c c' : ClientCursor) where
   hears_manner : (came : Step Sending (List ℕ)) (r : NextPoll) → Hears c came c' r → c'.manner ≡ c.manner
@@ -109,10 +109,10 @@ module _ (old new : Awaited) (log log' : LogTold) (wire : ℤ) (started : Bool) 
 -- ---- all batches of a poll
 
 -- each cursor of it reads plainly on
-abbrev IsPlainFetch : Doing → Type 0
+abbrev pub IsPlainFetch : Doing → Type 0
 IsPlainFetch doing = (c : ClientCursor) → cursor_in doing ≡ Some c → IsPlainCursor c
 
-cursor_at : (d : ClientDownload) (c : ClientCursor) (missing empty : ℕ) → d.doing ≡ downloads.reads c missing empty → IsPlainFetch d.doing → IsPlainCursor c
+pub cursor_at : (d : ClientDownload) (c : ClientCursor) (missing empty : ℕ) → d.doing ≡ downloads.reads c missing empty → IsPlainFetch d.doing → IsPlainCursor c
 cursor_at d c missing empty at plain = plain c (ap cursor_in at)
 
 -- no read goes on
@@ -147,16 +147,16 @@ chunks_file : (chunks : List (List ℕ)) (c : ClientCursor) (missing empty : ℕ
 chunks_file [] c missing empty d = refl
 chunks_file (b ∷ bs) c missing empty d = refl
 
-chunks_cursor : (chunks : List (List ℕ)) (c : ClientCursor) (missing empty : ℕ) (d : ClientDownload) → cursor_in (with_chunks chunks c missing empty d).doing ≡ Some c
+pub chunks_cursor : (chunks : List (List ℕ)) (c : ClientCursor) (missing empty : ℕ) (d : ClientDownload) → cursor_in (with_chunks chunks c missing empty d).doing ≡ Some c
 chunks_cursor [] c missing empty d = refl
 chunks_cursor (b ∷ bs) c missing empty d = refl
 
-record OneTaken (log log' : LogTold) (d m : ClientDownload) : Type 0 where
-  such : AddsSuch AsksForMore log log'
-  file : m.file ≡ d.file
-  plain : IsPlainFetch m.doing
+pub record OneTaken (log log' : LogTold) (d m : ClientDownload) : Type 0 where
+  pub such : AddsSuch AsksForMore log log'
+  pub file : m.file ≡ d.file
+  pub plain : IsPlainFetch m.doing
 
-one_taken : (old mid : Awaited) (log log_mid : LogTold) (wire : ℤ) (d m : ClientDownload) → IsPlainFetch d.doing → TakesOne old mid log log_mid wire d m → OneTaken log log_mid d m
+pub one_taken : (old mid : Awaited) (log log_mid : LogTold) (wire : ℤ) (d m : ClientDownload) → IsPlainFetch d.doing → TakesOne old mid log log_mid wire d m → OneTaken log log_mid d m
 one_taken old mid log log_mid wire d m plain one =
     let here = cursor_at d one.cursor one.missing one.empty one.at plain in
     let rests = polls_rest old mid log log_mid wire one.started one.cursor one.behind one.reply one.polls in
@@ -235,7 +235,7 @@ fills_on old new log log' wire room d d' given r plain h =
     record { such = f.such; file = c.0 ∙ f.file; plain = c.1 }
 
 -- the cursors of a download are sound
-plain_by : (d : ClientDownload) (doing : Doing) → downloads.SoundBy d doing → ((c : ClientCursor) → cursor_in doing ≡ Some c → c.manner ≡ no_manner) → IsPlainFetch doing
+pub plain_by : (d : ClientDownload) (doing : Doing) → downloads.SoundBy d doing → ((c : ClientCursor) → cursor_in doing ≡ Some c → c.manner ≡ no_manner) → IsPlainFetch doing
 plain_by d (downloads.idle cursor) sound plain c is = let same : cursor ≡ c = cc in subst IsPlainCursor same (record { sound = sound.1; manner = plain cursor refl })
 plain_by d (downloads.reads cursor missing empty) sound plain c is = let same : cursor ≡ c = cc in subst IsPlainCursor same (record { sound = sound.1.sound; manner = plain cursor refl })
 plain_by d downloads.ended sound plain c is = absurd cc

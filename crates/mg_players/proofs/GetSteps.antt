@@ -20,7 +20,7 @@ use Rattle.mg_link.specs.Step.{MayGoOn, MayGoThrough, MayTell, effect, grown, qu
 use Rattle.mg_link.specs.declared.reply.Verdict.TheVariants as verdict
 use Rattle.mg_link.proofs.Heard.{giving_heard, more_spoiled, told_heard}
 use Rattle.mg_link.proofs.Watched.{no_zero}
-use Rattle.mg_players.specs.Spares.{AreAmong, IsQueried}
+use Rattle.mg_players.specs.Reading.{AreAmong, IsQueried}
 use Rattle.mg_players.proofs.Prompting.{IsLawful, IsPrompted, may_tell, prompted, told_so}
 use Rattle.mg_players.proofs.Queried.{IsQuerying, stays_query}
 
@@ -83,7 +83,7 @@ effect_reads : (s : State) (q : Query) (id : ℤ) (space : Space) (events : List
 unfolding effect
 effect_reads s q id space events token time = opened_reads s (int_eq id (pos 0)) id (queried_at s q space events) q
 
-after_reads : (step : Step) (before : State) (q : Query) → asked step.command ≡ asks_query q → (o : OpensBatch step before q) → result (step_after before step) q ≡ result (grown before step.made) q
+pub after_reads : (step : Step) (before : State) (q : Query) → asked step.command ≡ asks_query q → (o : OpensBatch step before q) → result (step_after before step) q ≡ result (grown before step.made) q
 after_reads step before q asks o =
     let s : State = grown before step.made in
     let b : Batch = o.batch in

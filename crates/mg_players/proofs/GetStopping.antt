@@ -1,20 +1,22 @@
 -- What a poll of a get's read leaves: how its cursor stands, or why it failed.
-use Rattle.std.proofs.Common.{◌≡◌, ◌≢◌, ◌++◌, ◌+◌, ℕ, ℤ, pos, Bool, true, false, List, [], length, Some, None, Ok, refl, sym, ap, ◌∙◌, subst, inl, arith, append-nil}
+use Rattle.std.proofs.Common.{◌≡◌, ◌≢◌, ◌++◌, ℕ, ℤ, pos, Bool, true, false, List, [], length, Some, None, Ok, refl, sym, ap, ◌∙◌, subst, inl, arith, append-nil}
 use Rattle.std.specs.Ordering.{int_eq}
 use Rattle.std.proofs.lemmas.Bool.Decides.{Decides-int_eq}
 use Rattle.mg_bson.specs.Tree.{Fields}
 use Rattle.mg_link.specs.Calls.{Past, past_of}
-use Rattle.mg_link.specs.Files.{AreChunks, chunked}
+use Rattle.mg_link.specs.Files.{chunks_space}
 use Rattle.mg_link.specs.Link.{Awaited, LogTold}
 use Rattle.mg_link.specs.Log.{Call}
 use Rattle.mg_link.specs.Query.{Query}
+use Rattle.mg_link.specs.declared.error.Error.{Error}
 use Rattle.mg_link.proofs.Owners.{same_some}
+use Rattle.mg_ops.specs.Naming.{IsNamed}
 use Rattle.mg_cursor.specs.Client as client
 use Rattle.mg_cursor.specs.Client.{ClientCursor, HasNext}
 use Rattle.mg_cursor.specs.Reading.{in_reply, reader_in}
-use Rattle.mg_records.specs.FileRecords.{FileRecord, chunk_count, chunk_count_of}
+use Rattle.mg_records.specs.FileRecords.{FileRecord, chunk_count_of}
 use Rattle.mg_gridfs.specs.Downloaded.{KnowsBy, KnowsChunks, KnowsDownload}
-use Rattle.mg_gridfs.specs.Downloads.{ClientDownload, Doing, IsSoundDownload, SoundBy, idle, reads}
+use Rattle.mg_gridfs.specs.Downloads.{ClientDownload, Doing, IsSoundDownload, SoundBy, idle, missing_chunk, reads}
 use Rattle.mg_gridfs.specs.ReadCauses.{IsFetching, cursor_in}
 use Rattle.mg_gridfs.specs.Reads as steps
 use Rattle.mg_gridfs.specs.Reads.{Concludes, Fetched, Fills, HandsOut, Reads, ReadsNone, enough, fails, waits}
@@ -22,11 +24,10 @@ use Rattle.mg_gridfs.specs.declared.polls.ReadPoll.{ReadPoll}
 use Rattle.mg_gridfs.specs.declared.polls.ReadPoll.TheVariants as read
 use Rattle.mg_gridfs.proofs.Downloading.{AfterFetch, doing_known, fetches_known, fetches_same}
 use Rattle.mg_players.specs.Gets.{GetTask}
-use Rattle.mg_players.specs.Spares as stops
-use Rattle.mg_players.specs.Spares.{IsListed, ListsIts, ReadStops, SparesWhole, empties}
-use Rattle.mg_players.proofs.GetFetching.{FetchStops, StandsAt, fetches_stopped, received_many}
-use Rattle.mg_players.proofs.GetJudged.{chunks_many, count_said, whole_counts}
-use Rattle.mg_players.proofs.GetListing.{spared_by}
+use Rattle.mg_players.specs.Reading as stops
+use Rattle.mg_players.specs.Reading.{Differ, IsListed, ListsIts, ListsOther, ReadStops, empties, miscounted}
+use Rattle.mg_players.proofs.GetFetching.{FetchStops, StandsAt, fetches_stopped}
+use Rattle.mg_players.proofs.GetListing.{differs_by}
 
 -- ---- the count of the chunks
 
@@ -38,21 +39,18 @@ has_ended c none = by_eq (int_eq c.id (pos 0)) refl
     by_eq true is = (Decides-int_eq c.id (pos 0)).0 is
     by_eq false is = absurd (none (inl (λ e. let both : false ≡ true = sym is ∙ (Decides-int_eq c.id (pos 0)).1 e in cc)))
 
--- the chunks of a whole file are as many as its record says
-pub spares_count : (awaited : Awaited) (calls : List Call) (g : GetTask) (d : ClientDownload) (bytes : List ℕ) (c : ClientCursor) (place listed : ℕ) → KnowsChunks awaited calls g.at d bytes c place listed → c.doing ≡ client.rests → (HasNext c → ⊥) → chunk_count_of d.file.length d.file.chunk_size ≡ Ok d.count → d.taken ≢ d.count
-    → SparesWhole calls g.at g.id d.file listed
-spares_count awaited calls g d bytes c place listed k rests none counted other =
-    spared_by calls g.at g.id d.file listed (reader_in awaited c k.reader) k.knows k.none_lost k.queries k.asked_at
-    (λ whole size long same some left are history legal stands over.
+-- chunks that are not as many as the record says
+pub counts_other : (awaited : Awaited) (calls : List Call) (g : GetTask) (d : ClientDownload) (bytes : List ℕ) (c : ClientCursor) (place listed : ℕ) → KnowsChunks awaited calls g.at d bytes c place listed → IsNamed (chunks_space g.at) → c.doing ≡ client.rests → (HasNext c → ⊥) → chunk_count_of d.file.length d.file.chunk_size ≡ Ok d.count → d.taken ≢ d.count
+    → (e : Error) → e ≡ missing_chunk d.taken → ListsOther calls g.at d.file listed e
+counts_other awaited calls g d bytes c place listed k named rests none counted other e is =
+    differs_by calls g.at d.file listed (reader_in awaited c k.reader) k.knows k.none_lost k.queries k.asked_at named d.count counted e
+    (λ left history legal stands over.
     let many : k.reader.query.single ≡ false = ap (λ (q : Query). q.single) k.queries in
     let nothing : left ≡ [] = over (has_ended c none) many k.not_refused in
     let held : [] ++ in_reply c.doing ≡ [] = ap in_reply rests in
     let all : (k.reader.given ++ ([] ++ in_reply c.doing)) ++ left ≡ k.reader.given
     = ap (λ (l : List Fields). (k.reader.given ++ ([] ++ in_reply c.doing)) ++ l) nothing ∙ append-nil (k.reader.given ++ ([] ++ in_reply c.doing)) ∙ ap (λ (l : List Fields). k.reader.given ++ l) held ∙ append-nil k.reader.given in
-    let chunks_are = subst (AreChunks 0 (chunked size whole)) all are in
-    let cut = whole_counts whole size d.file long same some in
-    let total : chunk_count (length whole) size ≡ chunk_count d.file.length d.file.chunk_size = ap (λ (n : ℕ). chunk_count n size) long ∙ ap (λ (n : ℕ). chunk_count d.file.length n) same in
-    other (k.taken ∙ received_many d.file 0 k.chunks k.reader.given k.received ∙ sym (chunks_many 0 (chunked size whole) k.reader.given chunks_are) ∙ cut.count ∙ total ∙ sym (count_said d.file.length d.file.chunk_size d.count counted)))
+    subst (λ (ds : List Fields). Differ d.file d.count ds e) (sym all) (miscounted k.chunks k.received (λ same. other (k.taken ∙ same)) (is ∙ ap (λ (n : ℕ). missing_chunk n) k.taken)))
 
 -- ---- what is given
 
@@ -60,7 +58,7 @@ spares_count awaited calls g d bytes c place listed k rests none counted other =
 abbrev pub ReadLeaves : Past → List Call → GetTask → FileRecord → ℕ → ClientDownload → ReadPoll → Type 0
 ReadLeaves past calls g f listed d' read.Pending = ListsIts past g d'
 ReadLeaves past calls g f listed d' (read.Read n) = ListsIts past g d'
-ReadLeaves past calls g f listed d' (read.Failed e) = ReadStops past (SparesWhole calls g.at g.id f listed) e
+ReadLeaves past calls g f listed d' (read.Failed e) = ReadStops past (ListsOther calls g.at f listed e) e
 
 module _ (g : GetTask) (listed : ℕ) (past : Past) (calls : List Call) where
   -- one cursor
@@ -72,12 +70,12 @@ module _ (g : GetTask) (listed : ℕ) (past : Past) (calls : List Call) where
   lists_none : (d : ClientDownload) → cursor_in d.doing ≡ None → ListsIts past g d
   lists_none d none c at = absurd (let bad : None ≡ Some c = sym none ∙ at in cc)
 
-  gives_leaves : (room : ℕ) (c : ClientCursor) (d d' : ClientDownload) (given : List ℕ) (r : ReadPoll) (f : FileRecord) → d.file ≡ f → IsListed past g f 0 c → ((HasNext c → ⊥) → d.taken ≢ d.count → SparesWhole calls g.at g.id f listed) → HandsOut room c d d' given r → ReadLeaves past calls g f listed d' r
-  gives_leaves room c d d' given r f same l spares (steps.goes_on some is now answer) =
+  gives_leaves : (room : ℕ) (c : ClientCursor) (d d' : ClientDownload) (given : List ℕ) (r : ReadPoll) (f : FileRecord) → d.file ≡ f → IsListed past g f 0 c → ((HasNext c → ⊥) → d.taken ≢ d.count → (e : Error) → e ≡ missing_chunk d.taken → ListsOther calls g.at f listed e) → HandsOut room c d d' given r → ReadLeaves past calls g f listed d' r
+  gives_leaves room c d d' given r f same l differs_so (steps.goes_on some is now answer) =
       subst (ReadLeaves past calls g f listed d') (sym answer)
       (lists_one d' (idle c) c (ap (λ (x : ClientDownload). x.doing) now) refl (subst (λ (x : FileRecord). IsListed past g x 0 c) (sym (ap (λ (x : ClientDownload). x.file) now ∙ same)) l))
-  gives_leaves room c d d' given r f same l spares (steps.ends none over full is now answer) = subst (ReadLeaves past calls g f listed d') (sym answer) (lists_none d' (ap (λ (x : ClientDownload). cursor_in x.doing) now))
-  gives_leaves room c d d' given r f same l spares (steps.miscounts none over other no_bytes now answer) = subst (ReadLeaves past calls g f listed d') (sym answer) (stops.differs (spares over other))
+  gives_leaves room c d d' given r f same l differs_so (steps.ends none over full is now answer) = subst (ReadLeaves past calls g f listed d') (sym answer) (lists_none d' (ap (λ (x : ClientDownload). cursor_in x.doing) now))
+  gives_leaves room c d d' given r f same l differs_so (steps.miscounts none over other no_bytes now answer) = subst (ReadLeaves past calls g f listed d') (sym answer) (stops.differs (differs_so over other (missing_chunk d.taken) refl))
 
 -- ---- a poll
 
@@ -124,10 +122,10 @@ module _ (old new : Awaited) (log log' : LogTold) (wire : ℤ) (g : GetTask) (d 
         let chunks = subst (λ (x : ClientCursor). KnowsChunks new l g.at left bytes x know.of_record.front.place listed) second known.3 in
         let counts : chunk_count_of left.file.length left.file.chunk_size ≡ Ok left.count = subst (λ (f : FileRecord). chunk_count_of f.length f.chunk_size ≡ Ok left.count) (sym same) (counted ∙ ap (λ (n : ℕ). Ok n) (sym count)) in
         gives_leaves g listed past l room c left d' given r d.file (same ∙ file) (subst (λ (f : FileRecord). IsListed past g f 0 c) file (subst (λ (x : ClientCursor). IsListed past g e.file 0 x) first after.2))
-        (λ over other. subst (λ (f : FileRecord). SparesWhole l g.at g.id f listed) (same ∙ file) (spares_count new l g left bytes c know.of_record.front.place listed chunks rests over counts other)) ends.2
+        (λ over other why is. subst (λ (f : FileRecord). ListsOther l g.at f listed why) (same ∙ file) (counts_other new l g left bytes c know.of_record.front.place listed chunks after.2.named rests over counts other why is)) ends.2
     concluded e left room l (fails x) file counted same count after known ends =
         let past : Past = past_of P (length calls) l wire in
-        subst (ReadLeaves past l g d.file listed d') (sym ends.2) (subst (λ (f : FileRecord). ReadStops past (SparesWhole l g.at g.id f listed) x) file after)
+        subst (ReadLeaves past l g d.file listed d') (sym ends.2) (subst (λ (f : FileRecord). ReadStops past (ListsOther l g.at f listed x) x) file after)
 
     fills_left : (e : ClientDownload) (c : ClientCursor) (m k room : ℕ) → e.file ≡ d.file → StandsAt g P (length calls) wire bytes know.of_record.front.place listed old log calls e c m k → Fills old new log log' wire room e d' given r → ReadStopped
     fills_left e c m k room file s fills =
@@ -148,7 +146,7 @@ module _ (old new : Awaited) (log log' : LogTold) (wire : ℤ) (g : GetTask) (d 
     read_leaves room (steps.in_hand some c is more quiet gives) = record {
       calls' = calls;
       told' = quiet.log_same ∙ told;
-      leaves = gives_leaves g listed before calls room c d d' given r d.file refl (lists_at (idle c) c is refl) (λ over other. spares_count old calls g d bytes c know.of_record.front.place listed (knows_at (idle c) is) ((sound_at (idle c) is).3 more) over sound.sizes.counted other) gives;
+      leaves = gives_leaves g listed before calls room c d d' given r d.file refl (lists_at (idle c) c is refl) (λ over other why missing. counts_other old calls g d bytes c know.of_record.front.place listed (knows_at (idle c) is) (lists_at (idle c) c is refl).named ((sound_at (idle c) is).3 more) over sound.sizes.counted other why missing) gives;
     }
     read_leaves room (steps.begins some c is none fills) =
         let e : ClientDownload = record d { doing = reads c room 0 } in

@@ -4,7 +4,7 @@ use Rattle.std.specs.List.{concat}
 use Rattle.mg_link.specs.Calls.{Grows, Keeps}
 use Rattle.mg_link.specs.Link.{Awaited}
 use Rattle.mg_link.specs.Log.{Call}
-use Rattle.mg_link.specs.Owner.{Onward, nobody}
+use Rattle.mg_link.specs.Owner.{IsOf, Onward, nobody}
 use Rattle.mg_link.specs.declared.error.Error.{Error}
 use Rattle.mg_records.specs.FileRecords.{FileRecord}
 use Rattle.mg_gridfs.specs.DownloadView.{download_of, finding_of}
@@ -16,14 +16,15 @@ use Rattle.mg_script.specs.declared.outcome.Ended.TheVariants as ended
 use Rattle.mg_players.specs.Causes.{sent_at}
 use Rattle.mg_players.specs.Gets.{GetTask, IsFindAt, get_bucket, gets_ticket}
 use Rattle.mg_players.specs.Plays.{Places, all_places}
-use Rattle.mg_players.specs.Spares.{SparesWhole}
+use Rattle.mg_players.specs.Reading.{ListsOther}
 use Rattle.mg_players.specs.Telling as tells
 use Rattle.mg_players.specs.Telling.{GetTells, TellsAsked, TellsGetEnd, TellsGetFails, TellsGetOpened, finding_places, found_in}
 use Rattle.mg_players.specs.declared.get.GetStage.{GetStage}
 use Rattle.mg_players.specs.declared.get.GetStage.TheVariants as gets
 use Rattle.mg_players.proofs.Commands.{falls_later}
 use Rattle.mg_players.proofs.GetAdding.{asks_later}
-use Rattle.mg_players.proofs.GetSpared.{lists_grow, spares_grow, stops_grow}
+use Rattle.mg_players.proofs.GetNewest.{download_kept, finding_kept}
+use Rattle.mg_players.proofs.GetReading.{held_grows, lists_grow, other_grows, stops_grow}
 use Rattle.mg_players.proofs.Telling.{grows_later}
 
 -- ---- others
@@ -37,7 +38,7 @@ module _ (calls calls' : List Call) (wire : ℤ) (keeps : Keeps calls calls') (o
     heard = record_grows (sent_at q.opened calls wire) (sent_at q.opened calls' wire) (later q.opened) (get_bucket g.at) g.id (Some f) t.heard;
     listed = t.listed;
     finds = falls_later (IsFindAt g (Some f)) calls calls' 5 q.opened 1 keeps t.finds;
-    more = asks_later calls calls' keeps (concat q.owns ++ q.now) t.more;
+    more = asks_later calls calls' keeps (all_places q) (concat q.owns ++ q.now) t.more;
   }
 
   asked_later : (done : ℕ) → TellsAsked calls wire q g done → TellsAsked calls' wire q g done
@@ -51,9 +52,10 @@ module _ (calls calls' : List Call) (wire : ℤ) (keeps : Keeps calls calls') (o
   fails_later done e (tells.out_of_memory room) = tells.out_of_memory room
   fails_later done e (tells.has_no_room none is) = tells.has_no_room none is
   fails_later done e (tells.not_opened some first none fails) = tells.not_opened some first none (opening_fails_grow (sent_at q.now calls wire) (sent_at q.now calls' wire) (later q.now) (get_bucket g.at) g.id e fails)
-  fails_later done e (tells.not_read some more d at opened cursor fails its sound plain counted listed of why) =
+  fails_later done e (tells.not_read some more d at opened cursor fails its sound plain counted listed of held why) =
       tells.not_read some more d at (opened_later d.file at opened) cursor (read_fails_grow (sent_at q.now calls wire) (sent_at q.now calls' wire) (later q.now) d cursor e fails) its sound plain counted listed of
-      (stops_grow (sent_at (all_places q) calls wire) (sent_at (all_places q) calls' wire) (later (all_places q)) onward (SparesWhole calls g.at g.id d.file listed) (SparesWhole calls' g.at g.id d.file listed) (spares_grow calls calls' g.at g.id d.file listed onward) e why)
+      (held_grows (sent_at (all_places q) calls wire) (sent_at (all_places q) calls' wire) (later (all_places q)) g d.file cursor held)
+      (stops_grow (sent_at (all_places q) calls wire) (sent_at (all_places q) calls' wire) (later (all_places q)) onward (ListsOther calls g.at d.file listed e) (ListsOther calls' g.at d.file listed e) (other_grows calls calls' g.at d.file listed e onward) e why)
 
   end_later : (end : Ended (Unit {0})) (done : ℕ) (at : Option ℕ) → TellsGetEnd calls wire q g done at end → TellsGetEnd calls' wire q g done at end
   end_later ended.Unfinished done at t = tt
@@ -69,6 +71,7 @@ get_tells_later old new calls calls' wire q g (gets.Opens opening) done at keeps
   t.2,
   opening_grows (sent_at q.now calls wire) (sent_at q.now calls' wire) (grows_later q.now calls calls' wire keeps) old new (finding_of opening) same t.3,
   falls_later (IsFindAt g (found_in (finding_of opening).doing)) calls calls' 5 q.now (finding_places (finding_of opening).doing) keeps t.4,
+  finding_kept calls calls' keeps (λ (n : ℕ). IsOf q.now n) (λ (n : ℕ). IsOf q.now n) (λ place of. of) (λ place of. of) old new (finding_of opening).doing same t.5,
 )
 get_tells_later old new calls calls' wire q g (gets.Reads download room) done at keeps onward same t = (
   opened_later calls calls' wire keeps onward q g (download_of download).file at t.0,
@@ -77,5 +80,6 @@ get_tells_later old new calls calls' wire q g (gets.Reads download room) done at
   t.3,
   t.4,
   lists_grow (sent_at (all_places q) calls wire) (sent_at (all_places q) calls' wire) (grows_later (all_places q) calls calls' wire keeps) onward g (download_of download) t.5,
+  download_kept calls calls' keeps (λ (n : ℕ). IsOf (all_places q) n) (λ (n : ℕ). IsOf (all_places q) n) (λ place of. of) (λ place of. of) old new (download_of download) same t.6,
 )
 get_tells_later old new calls calls' wire q g (gets.Ended end) done at keeps onward same t = end_later calls calls' wire keeps onward q g end done at t

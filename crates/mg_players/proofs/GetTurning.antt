@@ -16,7 +16,7 @@ use Rattle.mg_link.specs.declared.error.Error.{Error}
 use Rattle.mg_link.specs.declared.error.ErrorKind.TheVariants as kind
 use Rattle.mg_link.proofs.Adding.{adds_none}
 use Rattle.mg_link.proofs.Apart.{holds_nobody, onward_refl, passes_here, passes_on, passes_same}
-use Rattle.mg_link.proofs.Calls.{grows_on, keeps_longer}
+use Rattle.mg_link.proofs.Calls.{grows_on, keeps_longer, log_grows, same_keeps}
 use Rattle.mg_link.proofs.Places.{get_within}
 use Rattle.mg_options.specs.Fields.{Line, fields_in}
 use Rattle.mg_cursor.specs.Causes.{IsUnderway, TellsNoCursor, UnderwayBy}
@@ -42,10 +42,11 @@ use Rattle.mg_gridfs.proofs.Growing.{fetching_grows, opening_fails_grow, opening
 use Rattle.mg_gridfs.proofs.Opened.{record_grows}
 use Rattle.mg_gridfs.proofs.ReadCaused.{read_fails_grow}
 use Rattle.mg_script.specs.declared.outcome.Ended.TheVariants as ended
-use Rattle.mg_players.specs.Causes.{AskForMore, FallsAt, sent_at, sent_since}
+use Rattle.mg_players.specs.Asking.{AllAskOn, DownloadLast, FindingLast}
+use Rattle.mg_players.specs.Causes.{FallsAt, sent_at, sent_since}
 use Rattle.mg_players.specs.Gets.{AsksForMore, AsksPlainly, GetKnowsAt, GetTask, IsFindAt, IsGetCommand, IsOpeningFor, KeepsRead, OpensAs, done_behind, get_bucket, get_owner, room_of, sought}
 use Rattle.mg_players.specs.Plays.{Moves, MovesTo, Places, all_places, by_finding, no_move}
-use Rattle.mg_players.specs.Spares.{ListsIts, SparesWhole}
+use Rattle.mg_players.specs.Reading.{HeardHeld, ListsIts, ListsOther}
 use Rattle.mg_players.specs.Telling as tells
 use Rattle.mg_players.specs.Telling.{FindsSoFar, GetTell, GetTells, GetTurns, TellsGetFails, TellsGetOpened, TellsNoCall, finding_places}
 use Rattle.mg_players.specs.declared.get.GetPlayer.{GetPlayer}
@@ -54,13 +55,16 @@ use Rattle.mg_players.specs.declared.get.GetStage.TheVariants as gets
 use Rattle.mg_players.proofs.Adding.{adds_sent}
 use Rattle.mg_players.proofs.Commands.{falls_later, falls_none}
 use Rattle.mg_players.proofs.GetCausing.{heard_same}
-use Rattle.mg_players.proofs.GetAdding.{adds_more, asks_answered, asks_going}
+use Rattle.mg_players.proofs.GetAdding.{adds_more, all_below, asks_answered, asks_going, now_below}
 use Rattle.mg_players.proofs.GetAsking.{FindsBy, opening_adds, opening_finds}
+use Rattle.mg_players.proofs.GetMores.{MoresBehind, read_last}
+use Rattle.mg_players.proofs.GetNewest.{download_kept, opens_last}
 use Rattle.mg_players.proofs.GetSending.{IsGiving, IsNewDownload, ReadsOn, found_same, has_none, listed_same, lists_some, new_giving, new_plain, opened_new, read_gives, read_on}
 use Rattle.mg_players.proofs.GetListed.{opened_listed, opening_listed}
-use Rattle.mg_players.proofs.GetSpared.{grows_among, lists_grow, stops_grow}
+use Rattle.mg_players.proofs.GetReading.{grows_among, held_grows, lists_grow, stops_grow}
 use Rattle.mg_players.proofs.GetStopping.{ReadLeaves, read_leaves}
 use Rattle.mg_players.proofs.Telling.{answered_by, extends_answered, extends_going, extends_opened, extends_same, going_on, grows_ended, grows_later, in_first, in_second, is_since, keeps_to, opened_by, same_told}
+use Rattle.mg_players.proofs.Whole.{whole_answered, whole_going}
 
 -- ---- why an opening fails, by the words of a bucket that is a copy
 
@@ -175,10 +179,11 @@ module _ (old new : Awaited) (log log' : LogTold) (wire : ℤ) (job : GetPlayer)
             let later : Past = sent_at (sent_since q.now (length calls) (length calls')) calls' wire in
             let here : IsOpening new past (finding_of opening') = subst (IsOpening new past) (sym same) c.came in
             let f = opening_finds g old new log log' wire o (findings.waits doing) t.1 sound opens calls calls' told told' q.now t.3 c.keeps t.4 in
+            let last = opens_last old new log log' wire o (findings.waits doing) opens calls calls' told told' c.room q.now (now_below calls q.now t.4.within) t.5 in
             record {
               longer = c.room;
               places = going_on q (length calls) (length calls');
-              tells = (t.0, subst (IsOpeningFor g) (sym same) (aim_same doing t.1), sound', opening_grows past later (grows_ended q.now (length calls) calls' wire) new new (finding_of opening') (λ m e. refl) here, subst (λ (x : Option FileRecord). FallsAt (IsFindAt g x) calls' 5 (sent_since q.now (length calls) (length calls')) (finding_places doing)) f.by f.falls);
+              tells = (t.0, subst (IsOpeningFor g) (sym same) (aim_same doing t.1), sound', opening_grows past later (grows_ended q.now (length calls) calls' wire) new new (finding_of opening') (λ m e. refl) here, subst (λ (x : Option FileRecord). FallsAt (IsFindAt g x) calls' 5 (sent_since q.now (length calls) (length calls')) (finding_places doing)) f.by f.falls, last);
               extends = extends_going q job.done job.done (length calls) (length calls') refl c.room;
               adds = opening_adds g old new log log' wire o (findings.waits doing) t.1 sound opens calls calls' told told' q.now t.3 some c.keeps;
             };
@@ -291,11 +296,16 @@ module _ (old new : Awaited) (log log' : LogTold) (wire : ℤ) (job : GetPlayer)
         grows_on (past_of q.now (length calls) calls' wire) (sent_at now calls' wire) (sent_at (all_places (opened_by q (length calls) (length calls'))) calls' wire) (grows_ended q.now (length calls) calls' wire)
         (grows_among now (now ++ []) (length calls') calls' wire (λ place of. in_first now [] place of))
 
+    -- all its commands are those of its opening
+    opened_last : (calls' : List Call) (now : List ℕ) → DownloadLast new calls' (λ (n : ℕ). IsOf now n) d → DownloadLast new calls' (λ (n : ℕ). IsOf (now ++ []) n) d
+    opened_last calls' now last = download_kept calls' calls' (same_keeps calls') (λ (n : ℕ). IsOf now n) (λ (n : ℕ). IsOf (now ++ []) n) (λ place of. in_first now [] place of) (λ other of. subst (λ (l : List ℕ). IsOf l other) (append-nil now) of) new new d (λ m e. refl) last
+
     stage_tells : (s : GetStage) (done : ℕ) → OpensAs download s → done ≡ done_behind s job.done → (calls calls' : List Call) (q : Places) (at : Option ℕ) → GetTells old calls wire q g (gets.Opens opening) job.done None → FindsBy calls' wire g (sent_since q.now (length calls) (length calls')) (findings.opens d) → AddsOnly (IsGetCommand g) calls calls' → length calls ≤ length calls'
-        → MovesTo moves calls calls' None at → ((b : ClientBucket) → o.bucket ≡ Some b → OpeningCame new (past_of q.now (length calls) calls' wire) b o.id (findings.opens d)) → ListsIts (past_of q.now (length calls) calls' wire) g d → GetTell new calls calls' wire q job.done g s done at
-    stage_tells gets.Unsent done opens_so behind calls calls' q at t f adds room placed came lists = absurd opens_so
-    stage_tells (gets.Opens x) done opens_so behind calls calls' q at t f adds room placed came lists = absurd opens_so
-    stage_tells (gets.Reads x hand) done opens_so behind calls calls' q at t f adds room placed came lists =
+        → MovesTo moves calls calls' None at → ((b : ClientBucket) → o.bucket ≡ Some b → OpeningCame new (past_of q.now (length calls) calls' wire) b o.id (findings.opens d)) → ListsIts (past_of q.now (length calls) calls' wire) g d
+        → DownloadLast new calls' (λ (n : ℕ). IsOf (sent_since q.now (length calls) (length calls')) n) d → GetTell new calls calls' wire q job.done g s done at
+    stage_tells gets.Unsent done opens_so behind calls calls' q at t f adds room placed came lists last = absurd opens_so
+    stage_tells (gets.Opens x) done opens_so behind calls calls' q at t f adds room placed came lists last = absurd opens_so
+    stage_tells (gets.Reads x hand) done opens_so behind calls calls' q at t f adds room placed came lists last =
         let q' : Places = opened_by q (length calls) (length calls') in
         record {
           longer = room;
@@ -307,13 +317,14 @@ module _ (old new : Awaited) (log log' : LogTold) (wire : ℤ) (job : GetPlayer)
             is_download,
             new_plain d new_one,
             lists_grow (past_of q.now (length calls) calls' wire) (sent_at (all_places q') calls' wire) (opened_grows_to calls calls' q) (onward_refl calls' nobody) g d lists,
+            opened_last calls' (sent_since q.now (length calls) (length calls')) last,
           );
           extends = extends_opened q job.done done (length calls) (length calls') first t.0.0 t.0.1 room;
           adds = adds;
         }
-    stage_tells (gets.Ended ended.Unfinished) done opens_so behind calls calls' q at t f adds room placed came lists = absurd opens_so
-    stage_tells (gets.Ended (ended.Gave x)) done opens_so behind calls calls' q at t f adds room placed came lists = absurd opens_so
-    stage_tells (gets.Ended (ended.Failed e)) done opens_so behind calls calls' q at t f adds room placed came lists = record {
+    stage_tells (gets.Ended ended.Unfinished) done opens_so behind calls calls' q at t f adds room placed came lists last = absurd opens_so
+    stage_tells (gets.Ended (ended.Gave x)) done opens_so behind calls calls' q at t f adds room placed came lists last = absurd opens_so
+    stage_tells (gets.Ended (ended.Failed e)) done opens_so behind calls calls' q at t f adds room placed came lists last = record {
       longer = room;
       places = going_on q (length calls) (length calls');
       tells = (tells.out_of_memory (ap (λ (x : Error). x.kind) opens_so), tells.in_opening t.0 (behind ∙ first) f.found (record { finds = f.falls; heard = f.heard }));
@@ -347,7 +358,8 @@ module _ (old new : Awaited) (log log' : LogTold) (wire : ℤ) (job : GetPlayer)
           let lists = opened_listed g b.0 (t.1.placed b.0 b.1) (past_of q.now (length calls) calls' wire) d (new_plain d new_one) (opening_listed old new log log' wire o d sound opens calls told q.now t.3 b.0 b.1 calls' told') in
           let f = opening_finds g old new log log' wire o (findings.opens d) t.1 sound opens calls calls' told told' q.now t.3 c.keeps t.4 in
           let adds = opening_adds g old new log log' wire o (findings.opens d) t.1 sound opens calls calls' told told' q.now t.3 some c.keeps in
-          stage_tells s after.done opens_so behind calls calls' q at' t f adds c.room placed c.came lists;
+          let last = opens_last old new log log' wire o (findings.opens d) opens calls calls' told told' c.room q.now (now_below calls q.now t.4.within) t.5 in
+          stage_tells s after.done opens_so behind calls calls' q at' t f adds c.room placed c.came lists last;
     }
 
 -- ---- before it
@@ -376,6 +388,7 @@ opening_begins old new log log' wire job after opening aim new_one sound rest =
             sound,
             λ b is. subst (LookingUnderway old (sent_at q.now calls wire) b o.id) (sym new_one) tt,
             subst (FindsSoFar calls g q.now) (sym new_one) (none_asked calls g q t.1 5 (omega arith)),
+            subst (FindingLast old (λ (n : ℕ). IsOf q.now n)) (sym new_one) tt,
           );
     }
 
@@ -395,7 +408,7 @@ fails_unsent awaited log wire job e first why = record {
 leaves_grow : (past past' : Past) → Grows past past' → Onward past.calls past'.calls nobody → (calls : List Call) (g : GetTask) (f : FileRecord) (listed : ℕ) (d : ClientDownload) (r : ReadPoll) → ReadLeaves past calls g f listed d r → ReadLeaves past' calls g f listed d r
 leaves_grow past past' grows onward calls g f listed d read.Pending l = lists_grow past past' grows onward g d l
 leaves_grow past past' grows onward calls g f listed d (read.Read n) l = lists_grow past past' grows onward g d l
-leaves_grow past past' grows onward calls g f listed d (read.Failed e) l = stops_grow past past' grows onward (SparesWhole calls g.at g.id f listed) (SparesWhole calls g.at g.id f listed) (λ s. s) e l
+leaves_grow past past' grows onward calls g f listed d (read.Failed e) l = stops_grow past past' grows onward (ListsOther calls g.at f listed e) (ListsOther calls g.at f listed e) (λ s. s) e l
 
 module _ (old new : Awaited) (log log' : LogTold) (wire : ℤ) (job : GetPlayer) (download : GridFsDownloadStream) (hand : Vec ℕ Global) (sound : IsDownload download) (some : 0 < job.what.read) (d' : ClientDownload) (r : ReadPoll) (given : List ℕ)
     (reads_so : Reads old new log log' wire (length hand.items) (download_of download) d' given r) (caused : ReadCaused old new log log' wire (download_of download) d' r) where
@@ -416,8 +429,8 @@ module _ (old new : Awaited) (log log' : LogTold) (wire : ℤ) (job : GetPlayer)
     keeps : Keeps calls calls'
     room : length calls ≤ length calls'
     came : files.ReadCame new (past_of q.now (length calls) calls' wire) before d' r
-    more : AddsOnly AsksForMore calls calls'
     adds : AddsOnly (IsGetCommand task) calls calls'
+    behind : MoresBehind new calls' (sent_since (all_places q) (length calls) (length calls')) (length calls) d'
 
   come_to : (calls calls' : List Call) → log ≡ Some calls → log' ≡ Some calls' → (q : Places) (at : Option ℕ) → Told calls q at → ReadCome calls calls' q
   come_to calls calls' told told' q at t =
@@ -429,9 +442,18 @@ module _ (old new : Awaited) (log log' : LogTold) (wire : ℤ) (job : GetPlayer)
         keeps = keeps;
         room = keeps_longer calls calls' keeps;
         came = subst (λ (c : List Call). files.ReadCame new (past_of q.now (length calls) c wire) before d' r) (same_told log' x.0 calls' x.1 told') x.3;
-        more = more;
         adds = adds_more task some calls calls' more;
+        behind = read_last old new log log' wire (length hand.items) before d' given r sound.between.sound t.4 reads_so calls calls' told told' (keeps_longer calls calls' keeps) (all_places q) (all_below calls q t.0.finds.within t.0.more) t.6;
       }
+
+  -- what was in hand before it was heard
+  held_by : (calls calls' : List Call) (q q' : Places) (at : Option ℕ) → Keeps calls calls' → all_places q' ≡ sent_since (all_places q) (length calls) (length calls') → Told calls q at → (c : ClientCursor) → cursor_in before.doing ≡ Some c → HeardHeld (sent_at (all_places q') calls' wire) task before.file c
+  held_by calls calls' q q' at keeps whole t c its =
+      let all : List ℕ = all_places q in
+      let here : Past = past_of all (length calls) calls' wire in
+      subst (λ (l : List ℕ). HeardHeld (sent_at l calls' wire) task before.file c) (sym whole)
+      (held_grows here (sent_at (sent_since all (length calls) (length calls')) calls' wire) (grows_ended all (length calls) calls' wire) task before.file c
+      (held_grows (sent_at all calls wire) here (log_grows all (length calls) calls calls' wire keeps) task before.file c (λ bytes is. ((t.5 c its).held bytes is).1.heard)))
 
   -- how its cursor stands behind it, or why it failed
   left_by : (calls calls' : List Call) → log ≡ Some calls → log' ≡ Some calls' → (q q' : Places) (at : Option ℕ) (k : GetKnowsAt old calls task (gets.Reads download hand) job.bytes.items at) → Told calls q at → all_places q' ≡ sent_since (all_places q) (length calls) (length calls')
@@ -445,7 +467,7 @@ module _ (old new : Awaited) (log log' : LogTold) (wire : ℤ) (job : GetPlayer)
       (leaves_grow (past_of all (length calls) calls' wire) (sent_at (sent_since all (length calls) (length calls')) calls' wire) (grows_ended all (length calls) calls' wire) (onward_refl calls' nobody) calls' task before.file k.0 d' r here)
 
   -- what its opening heard is told so by a later log, where more chunks were asked for
-  still_opened : (calls calls' : List Call) (q q' : Places) (f f' : FileRecord) (at : Option ℕ) → Keeps calls calls' → q'.opened ≡ q.opened → f' ≡ f → (AskForMore calls (concat q.owns ++ q.now) → AskForMore calls' (concat q'.owns ++ q'.now)) → TellsGetOpened calls wire q task f at → TellsGetOpened calls' wire q' task f' at
+  still_opened : (calls calls' : List Call) (q q' : Places) (f f' : FileRecord) (at : Option ℕ) → Keeps calls calls' → q'.opened ≡ q.opened → f' ≡ f → (AllAskOn calls (all_places q) (concat q.owns ++ q.now) → AllAskOn calls' (all_places q') (concat q'.owns ++ q'.now)) → TellsGetOpened calls wire q task f at → TellsGetOpened calls' wire q' task f' at
   still_opened calls calls' q q' f f' at keeps same file asks t = record {
     heard = subst (λ (x : FileRecord). HeardRecord (sent_at q'.opened calls' wire) (get_bucket task.at) task.id (Some x)) (sym file)
         (subst (λ (l : List ℕ). HeardRecord (sent_at l calls' wire) (get_bucket task.at) task.id (Some f)) (sym same)
@@ -478,12 +500,13 @@ read_waits old new log log' wire job download hand sound some download' hand' gi
             longer = c.room;
             places = q';
             tells = (
-              subst (λ (x : Option ℕ). TellsGetOpened calls' wire q' g d'.file x) (sym placed) (still_opened old new log log' wire job download hand sound some d' read.Pending given reads_so caused calls calls' q q' d.file d'.file at c.keeps refl on.file (asks_going calls calls' c.room q c.more) t.0),
+              subst (λ (x : Option ℕ). TellsGetOpened calls' wire q' g d'.file x) (sym placed) (still_opened old new log log' wire job download hand sound some d' read.Pending given reads_so caused calls calls' q q' d.file d'.file at c.keeps refl on.file (asks_going calls calls' c.keeps q c.behind.mores) t.0),
               t.1,
               fetching_grows past (sent_at q'.now calls' wire) (grows_ended q.now (length calls) calls' wire) new new d' (λ m e. refl) c.came,
               sound',
               on.plain,
               left_by old new log log' wire job download hand sound some d' read.Pending given reads_so caused calls calls' told told' q q' at k t (extends_going q job.done job.done (length calls) (length calls') refl c.room).whole,
+              subst (λ (l : List ℕ). DownloadLast new calls' (λ (n : ℕ). IsOf l n) d') (sym (whole_going q (length calls) (length calls'))) c.behind.last,
             );
             extends = extends_going q job.done job.done (length calls) (length calls') refl c.room;
             adds = c.adds;
@@ -505,13 +528,14 @@ read_fails old new log log' wire job download hand sound some d' now given e rea
           let c = come_to old new log log' wire job download hand sound some d' (read.Failed e) given reads_so caused calls calls' told told' q at t in
           let q' : Places = going_on q (length calls) (length calls') in
           let past : Past = past_of q.now (length calls) calls' wire in
-          let still = still_opened old new log log' wire job download hand sound some d' (read.Failed e) given reads_so caused calls calls' q q' d.file d.file at c.keeps refl refl (asks_going calls calls' c.room q c.more) t.0 in
+          let still = still_opened old new log log' wire job download hand sound some d' (read.Failed e) given reads_so caused calls calls' q q' d.file d.file at c.keeps refl refl (asks_going calls calls' c.keeps q c.behind.mores) t.0 in
           record {
             longer = c.room;
             places = q';
             tells = (
               tells.not_read some (let count = t.1 in omega (arith, count)) d at still c.came.0
                   (read_fails_grow past (sent_at q'.now calls' wire) (grows_ended q.now (length calls) calls' wire) d c.came.0 e c.came.2) c.came.1 sound.between.sound t.4 t.1 k.0 (t.0.listed k.0 k.2)
+                  (held_by old new log log' wire job download hand sound some d' (read.Failed e) given reads_so caused calls calls' q q' at c.keeps (extends_going q job.done job.done (length calls) (length calls') refl c.room).whole t c.came.0 c.came.1)
                   (left_by old new log log' wire job download hand sound some d' (read.Failed e) given reads_so caused calls calls' told told' q q' at k t (extends_going q job.done job.done (length calls) (length calls') refl c.room).whole),
               tells.behind_it d.file at still t.1,
             );
@@ -591,12 +615,13 @@ module _ (old new : Awaited) (log log' : LogTold) (wire : ℤ) (job after : GetP
         longer = c.room;
         places = q';
         tells = subst (λ (y : GridFsDownloadStream). GetTells new calls' wire q' aim (gets.Reads y room) after.done at) (sym keeps.1) (
-          still_opened old new log log' wire job download hand sound some (download_of download') (read.Read count) given reads_so caused calls calls' q q' (download_of download).file (download_of download').file at c.keeps refl on.file (asks_answered calls calls' c.room q c.more) t.0,
+          still_opened old new log log' wire job download hand sound some (download_of download') (read.Read count) given reads_so caused calls calls' q q' (download_of download).file (download_of download').file at c.keeps refl on.file (asks_answered calls calls' c.keeps q c.behind.mores) t.0,
           omega (arith, more, counted, behind),
           giving_fetching new (sent_at q'.now calls' wire) (download_of download') (download_of download').doing sound'.between.sound.by (gives_so keeps.0),
           sound',
           on.plain,
           left_by old new log log' wire job download hand sound some (download_of download') (read.Read count) given reads_so caused calls calls' told told' q q' at k t (extends_answered q job.done after.done (length calls) (length calls') (sym counted) c.room).whole,
+          subst (λ (l : List ℕ). DownloadLast new calls' (λ (n : ℕ). IsOf l n) (download_of download')) (sym (whole_answered q (length calls) (length calls'))) c.behind.last,
         );
         extends = extends_answered q job.done after.done (length calls) (length calls') (sym counted) c.room;
         adds = c.adds;
@@ -609,7 +634,7 @@ module _ (old new : Awaited) (log log' : LogTold) (wire : ℤ) (job after : GetP
       record {
         longer = c.room;
         places = q';
-        tells = (some, f, still_opened old new log log' wire job download hand sound some (download_of download') (read.Read count) given reads_so caused calls calls' q q' f f at c.keeps refl refl (asks_going calls calls' c.room q c.more) t.0, t.1 ∙ sym behind);
+        tells = (some, f, still_opened old new log log' wire job download hand sound some (download_of download') (read.Read count) given reads_so caused calls calls' q q' f f at c.keeps refl refl (asks_going calls calls' c.keeps q c.behind.mores) t.0, t.1 ∙ sym behind);
         extends = extends_going q job.done after.done (length calls) (length calls') behind c.room;
         adds = c.adds;
       }
@@ -617,7 +642,7 @@ module _ (old new : Awaited) (log log' : LogTold) (wire : ℤ) (job after : GetP
       let c = come_to old new log log' wire job download hand sound some (download_of download') (read.Read count) given reads_so caused calls calls' told told' q at t in
       let q' : Places = going_on q (length calls) (length calls') in
       let f : FileRecord = (download_of download).file in
-      let still = still_opened old new log log' wire job download hand sound some (download_of download') (read.Read count) given reads_so caused calls calls' q q' f f at c.keeps refl refl (asks_going calls calls' c.room q c.more) t.0 in
+      let still = still_opened old new log log' wire job download hand sound some (download_of download') (read.Read count) given reads_so caused calls calls' q q' f f at c.keeps refl refl (asks_going calls calls' c.keeps q c.behind.mores) t.0 in
       record {
         longer = c.room;
         places = q';

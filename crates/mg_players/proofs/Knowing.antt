@@ -34,7 +34,7 @@ use Rattle.std.proofs.lemmas.Bool.{cases_eq, eq-eqb, ne_eqb}
 use Rattle.std.proofs.lemmas.List.{length-map}
 use Rattle.mg_players.proofs.GetKnowing.{get_first, get_same, holds_get}
 use Rattle.mg_players.proofs.PutKnowing.{holds_put, kept_put, same_put}
-use Rattle.mg_players.specs.Puts.{PutKnows}
+use Rattle.mg_players.specs.Puts.{PutKnows, Supply}
 use Rattle.mg_players.specs.declared.put.PutPlayer.{PutPlayer}
 use Rattle.mg_players.specs.declared.put.PutStage.{PutStage}
 use Rattle.mg_players.specs.declared.put.Written.{Written}
@@ -58,7 +58,7 @@ kept_player awaited calls calls' (player.Follow job) o at onward (inr vain) = in
 kept_player awaited calls calls' (player.Put job) o at onward plays = kept_put awaited calls calls' o onward job.stage plays
 kept_player awaited calls calls' (player.Get job) o at onward plays = get_same awaited awaited calls calls' job o at onward (λ m e. refl) plays
 
-module _ {so : Task → Type 0} (old new : Awaited) (log log' : LogTold) (wire : ℤ) (players : List Player) (k : ℕ) (p p' : Player) (at : slice_get players k ≡ Some p) (apart : MayAllGo old wire players) (goes : Goes so old new log log' wire p p') where
+module _ {so : Supply → Task → Type 0} (old new : Awaited) (log log' : LogTold) (wire : ℤ) (players : List Player) (k : ℕ) (p p' : Player) (at : slice_get players k ≡ Some p) (apart : MayAllGo old wire players) (goes : Goes so old new log log' wire p p') where
   -- the places where streams were opened, behind the turn
   abbrev pub places_on : Option ℕ → (ℕ → Option ℕ) → ℕ → Option ℕ
   places_on place places i = cond (nat_eq i k) place (places i)
@@ -232,13 +232,17 @@ get_length [] (z ∷ zs) same i y h = absurd cc
 get_length (x ∷ xs) (z ∷ zs) same zero y h = (x, refl)
 get_length (x ∷ xs) (z ∷ zs) same (suc i) y h = get_length xs zs (omega (arith, same)) i y h
 
+-- jobs that have done nothing own nothing
+pub owners_first : (players : List Player) (i : ℕ) (o : Owner) → slice_get (map first_owner players) i ≡ Some o → OwnsNothing o
+owners_first players i o h = let x = get_mapped first_owner players i o h in subst OwnsNothing x.1 (owns_first x.0)
+
 -- what jobs know that have done nothing, whatever was called before
 abbrev pub know_first : (awaited : Awaited) (calls : List Call) (players : List Player) → AreFirst players → AllKnow awaited calls players
 know_first awaited calls players first =
     record {
       owners = map first_owner players;
       places = λ i. None;
-      apart = apart_at_first calls (map first_owner players) (λ i o h. let x = get_mapped first_owner players i o h in subst OwnsNothing x.1 (owns_first x.0));
+      apart = apart_at_first calls (map first_owner players) (owners_first players);
       each = λ i p h. record { owner = first_owner p; there = get_map first_owner players i p h; plays = plays_first awaited calls p (first i p h) };
     }
 

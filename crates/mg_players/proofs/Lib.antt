@@ -9,10 +9,15 @@ pub mod GetSending
 pub mod GetCausing
 pub mod GetAsking
 pub mod GetAdding
+pub mod GetNewest
+pub mod GetMores
 pub mod GetTurning
-pub mod GetSpared
+pub mod GetReading
 pub mod GetSteps
 pub mod GetJudged
+pub mod GetDiffering
+pub mod GetBlamed
+pub mod GetBroken
 pub mod GetListing
 pub mod GetFetching
 pub mod GetStopping
@@ -38,6 +43,7 @@ pub mod PutBuckets
 pub mod PutOpening
 pub mod PutDriving
 pub mod PutListing
+pub mod PutCreated
 pub mod PutChecked
 pub mod PutErrors
 pub mod PutFailing
@@ -45,6 +51,7 @@ pub mod PutFailed
 pub mod PutWriting
 pub mod PutPolled
 pub mod PutSending
+pub mod PutSupplied
 pub mod PutChunks
 pub mod PutCommands
 pub mod PutOrder

@@ -1,7 +1,7 @@
 -- The bucket of a put, and its upload as it is opened.
-use Rattle.std.proofs.Common.{◌≡◌, ℕ, List, Option, Some, None, string_bytes, refl, sym, ap, ◌∙◌, subst, inl, inr}
-use Rattle.std.specs.Prelude.{option_map}
-use Rattle.mg_bson.specs.Tree.{Fields}
+use Rattle.std.proofs.Common.{◌≡◌, ◌+◌, ℕ, List, Option, Some, None, Result, Ok, Err, string_bytes, refl, sym, ap, ◌∙◌, subst, inl, inr, arith}
+use Rattle.std.specs.Prelude.{OnOk, option_map}
+use Rattle.mg_bson.specs.Tree.{Fields, Tree}
 use Rattle.mg_link.specs.Files.{chunks_space, files_space}
 use Rattle.mg_link.specs.Concerns.{concerned}
 use Rattle.mg_link.specs.declared.concern.ReadConcern.{ReadConcern}
@@ -11,6 +11,7 @@ use Rattle.mg_link.specs.declared.read_preference.SelectionCriteria.{SelectionCr
 use Rattle.mg_link.specs.Namespace.{Space}
 use Rattle.mg_options.specs.Copies.{SameIn, level_of}
 use Rattle.mg_options.specs.declared.grid_fs.GridFsBucketOptions.{GridFsBucketOptions}
+use Rattle.mg_ops.specs.Drawn.{AreLater, one_unless_there}
 use Rattle.mg_ops.specs.Failing.{FailsBy}
 use Rattle.mg_gridfs.specs.Buckets.{ClientBucket, ClientOpening, HasNoSize, IsDraft, IsNewOpening, SameBucket, bucket_by}
 use Rattle.mg_gridfs.specs.declared.bucket.DatabaseDefaults.{DatabaseDefaults}
@@ -64,3 +65,11 @@ opened_fresh t b p o ids u bucket new is opened =
 pub open_fails : (t : PutTask) (p o : ClientOpening) (e : Error) → o ≡ given_in t p → FailsBy (HasNoSize o) e → CannotOpen t e
 open_fails t p o e is (inl room) = inl room
 open_fails t p o e is (inr fails) = let own = subst (λ (x : ClientOpening). HasNoSize x e) is fails in inr (own.none, own.error)
+
+-- Its id is given, so that none is drawn.
+pub none_by_id : {T E : Type 0} (r : Result T E) (o : ClientOpening) (id : Tree) (ids ids' : ℕ → List ℕ) → o.id ≡ Some id → OnOk r (AreLater ids (one_unless_there o.id) ids') → OnOk r ((k : ℕ) → ids' k ≡ ids k)
+none_by_id (Ok s) o id ids ids' given drawn = λ k.
+    let none : one_unless_there o.id ≡ 0 = ap one_unless_there given in
+    let same : one_unless_there o.id + k ≡ k = omega (arith, none) in
+    drawn k ∙ ap ids same
+none_by_id (Err e) o id ids ids' given drawn = tt

@@ -12,7 +12,7 @@ use Rattle.mg_link.specs.declared.action.Step.TheVariants as came
 use Rattle.mg_link.specs.declared.error.Error.{Error}
 use Rattle.mg_link.proofs.Calls.{RequestRan, request_ran, success_ran}
 use Rattle.mg_link.proofs.Filed.{Grew}
-use Rattle.mg_link.proofs.Pasts.{fails_anyhow, heard_by}
+use Rattle.mg_link.proofs.Pasts.{fails_anyhow, heard_by, last_reply}
 use Rattle.mg_link.proofs.Places.{get_within}
 use Rattle.mg_options.specs.Fields.{Line, fields_in}
 use Rattle.mg_ops.specs.Cursors.{OpensWith}
@@ -29,11 +29,12 @@ use Rattle.mg_gridfs.specs.Causes as causes
 use Rattle.mg_gridfs.specs.Causes.{CheckUnderway, IsOfCheck, ListsFailure}
 use Rattle.mg_gridfs.specs.Checks as check
 use Rattle.mg_gridfs.specs.Checks.{Builds, CheckTurned, ChecksOn, ClientCheck, Creates, EndsList, GoesBehind, HearsAdvance, HearsCreation, HearsFind, HearsIndex, HearsListing, IsSoundCheck, Looks, creates, finds, indexes, lists, namespace_exists, reads}
-use Rattle.mg_gridfs.specs.Commands.{CannotSend, IsRequest, any_lines, creation_lines, index_lines, listing_lines}
+use Rattle.mg_gridfs.specs.Commands.{CannotSend, IsNewRequest, IsRequest, any_lines, creation_lines, index_lines, listing_lines}
 use Rattle.mg_gridfs.specs.declared.indexes.Place.{Place}
 use Rattle.mg_gridfs.specs.declared.indexes.Place.TheVariants as place
 use Rattle.mg_players.specs.PutFailures as fails
-use Rattle.mg_players.specs.PutFailures.{CheckReads, IsListed, PutCheckFails, ReadsList, first_batch, held_in}
+use Rattle.mg_players.specs.PutFailures.{CheckReads, HeardCreation, IsListed, PutCheckFails, ReadsList, first_batch, held_in}
+use Rattle.mg_players.proofs.PutCreated.{CameBehind, created_by, first_asked, listing_ran, there_by}
 use Rattle.mg_players.proofs.PutListing.{SoughtBy, seeks_list}
 
 -- behind a step
@@ -68,18 +69,18 @@ module _ (awaited : Awaited) (past : Past) (b : ClientBucket) where
   as_turned : (t u : CheckTurned) → t ≡ u → TurnReads awaited past b u → TurnReads awaited past b t
   as_turned t u is h = subst (TurnReads awaited past b) (sym is) h
 
-  builds_so : (again : Bool) (lines : List Line) (next_one : Sending → ClientCheck) (t : CheckTurned) → IsOfCheck b lines → ((s : Sending) → CheckReads awaited past b (next_one s)) → Builds again lines next_one t → TurnReads awaited past b t
-  builds_so again lines next_one t own reads_so (check.built s request is) = as_turned t (check.goes (next_one s)) is (reads_so s)
+  builds_so : (again : Bool) (lines : List Line) (next_one : Sending → ClientCheck) (t : CheckTurned) → IsOfCheck b lines → ((s : Sending) → IsNewRequest again lines s → CheckReads awaited past b (next_one s)) → Builds again lines next_one t → TurnReads awaited past b t
+  builds_so again lines next_one t own reads_so (check.built s request is) = as_turned t (check.goes (next_one s)) is (reads_so s request)
   builds_so again lines next_one t own reads_so (check.not_built e failed is) = as_turned t (check.fails e) is (caused_by (CannotSend lines) e (λ x cannot. fails.not_built lines own cannot) failed)
 
   creation_so : (at : Place) (t : CheckTurned) → Builds false (creation_lines b at) (creates at) t → TurnReads awaited past b t
-  creation_so at t builds = builds_so false (creation_lines b at) (creates at) t (causes.a_creation at refl) (λ s. tt) builds
+  creation_so at t builds = builds_so false (creation_lines b at) (creates at) t (causes.a_creation at refl) (λ s request. tt) builds
 
-  listing_so : (at : Place) (t : CheckTurned) → Builds true (listing_lines b at) (lists at) t → TurnReads awaited past b t
-  listing_so at t builds = builds_so true (listing_lines b at) (lists at) t (causes.a_listing at refl) (λ s. tt) builds
+  listing_so : (at : Place) (t : CheckTurned) → HeardCreation past b at → Builds true (listing_lines b at) (lists at) t → TurnReads awaited past b t
+  listing_so at t created builds = builds_so true (listing_lines b at) (lists at) t (causes.a_listing at refl) (λ s request. first_asked past b at awaited s request.new created) builds
 
   indexing_so : (at : Place) (t : CheckTurned) → Builds false (index_lines b at) (indexes at) t → TurnReads awaited past b t
-  indexing_so at t builds = builds_so false (index_lines b at) (indexes at) t (causes.an_index at refl) (λ s. tt) builds
+  indexing_so at t builds = builds_so false (index_lines b at) (indexes at) t (causes.an_index at refl) (λ s request. tt) builds
 
   behind_so : (at : Place) (t : CheckTurned) → GoesBehind b at t → TurnReads awaited past b t
   behind_so place.Files t h = creation_so place.Chunks t h
@@ -97,8 +98,8 @@ module _ (awaited : Awaited) (past : Past) (b : ClientBucket) where
     find_so (came.Failed e) t runs h failed = as_turned t (check.fails e) h (fails.by_find (fails_anyhow past (fields_in (any_lines b)) true TellsNoCursor e failed))
 
     created_so : (at : Place) (bytes : List ℕ) (t : CheckTurned) → Runs old new log log' wire s (came.Done bytes) → Creates b at (came.Done bytes) t → Came new past (fields_in (creation_lines b at)) false (came.Done bytes) → TurnReads awaited past b t
-    created_so at bytes t runs (check.created reply_bytes is none builds) heard = listing_so at t builds
-    created_so at bytes t runs (check.there e is code builds) heard = listing_so at t builds
+    created_so at bytes t runs (check.created reply_bytes is none builds) heard = listing_so at t (created_by past b at bytes heard) builds
+    created_so at bytes t runs (check.there e is code builds) heard = listing_so at t (created_by past b at bytes heard) builds
     created_so at bytes t runs (check.unread reply_bytes e is failed answer) heard =
         as_turned t (check.fails e) answer (caused_by (WriteFails (fields reply_bytes)) e
         (λ x cause. let here = subst (λ (bs : List ℕ). WriteFails (fields bs) x) (sym (ap bytes_in is)) cause in
@@ -106,8 +107,10 @@ module _ (awaited : Awaited) (past : Past) (b : ClientBucket) where
     created_so at bytes t runs (check.other e is ne answer) heard = absurd cc
 
     not_created_so : (at : Place) (f : Error) (t : CheckTurned) → Creates b at (came.Failed f) t → Came new past (fields_in (creation_lines b at)) false (came.Failed f) → TurnReads awaited past b t
-    not_created_so at f t (check.created reply_bytes is none builds) failed = listing_so at t builds
-    not_created_so at f t (check.there e is code builds) failed = listing_so at t builds
+    not_created_so at f t (check.created reply_bytes is none builds) failed = absurd cc
+    not_created_so at f t (check.there e is code builds) failed =
+        let same : f ≡ e = ap (error_in f) is in
+        listing_so at t (there_by past b at f (subst (λ (x : Error). command_code x.kind ≡ Some namespace_exists) (sym same) code) failed) builds
     not_created_so at f t (check.unread reply_bytes e is unread answer) failed = absurd cc
     not_created_so at f t (check.other e is ne answer) failed =
         let same : f ≡ e = ap (error_in f) is in
@@ -139,12 +142,18 @@ module _ (awaited : Awaited) (past : Past) (b : ClientBucket) where
           waits = λ sending ticket place is held at_place. absurd cc;
         }
 
-    lists_so : (at : Place) (c : Step Sending (List ℕ)) (t : CheckTurned) → Runs old new log log' wire s c → HearsListing at c t → Came new past (fields_in (listing_lines b at)) true c → TurnReads awaited past b t
-    lists_so at (came.Pending s') t runs h flies = as_turned t (check.pends (lists at s')) h tt
-    lists_so at (came.Done bytes) t runs (check.opened out opens is) heard = as_turned t (check.goes (reads at (new_documents (new_client out)) false 0)) is (opened_so at bytes out runs opens heard)
+    lists_so : (at : Place) (c : Step Sending (List ℕ)) (t : CheckTurned) → Runs old new log log' wire s c → HearsListing at c t → CameBehind awaited past b at c → TurnReads awaited past b t
+    lists_so at (came.Pending s') t runs h asks_so = as_turned t (check.pends (lists at s')) h asks_so
+    lists_so at (came.Done bytes) t runs (check.opened out opens is) heard =
+        let x = heard.1 in
+        as_turned t (check.goes (reads at (new_documents (new_client out)) false 0)) is (opened_so at bytes out runs opens (last_reply x.later past x.grows (fields_in (listing_lines b at)) true bytes x.says))
     lists_so at (came.Done bytes) t runs (check.broke e failed is) heard =
-        as_turned t (check.fails e) is (caused_by (TellsNoCursor bytes) e (λ x breaks. fails.by_listing at (was_broken bytes heard (success_ran old new log log' wire s bytes runs) breaks)) failed)
-    lists_so at (came.Failed e) t runs h failed = as_turned t (check.fails e) h (fails.by_listing at (fails_anyhow past (fields_in (listing_lines b at)) true TellsNoCursor e failed))
+        let x = heard.1 in
+        as_turned t (check.fails e) is
+        (caused_by (TellsNoCursor bytes) e (λ y breaks. fails.by_listing at heard.0 (record { later = x.later; grows = x.grows; behind = x.behind; says = was_broken bytes x.says (success_ran old new log log' wire s bytes runs) breaks })) failed)
+    lists_so at (came.Failed e) t runs h failed =
+        let x = failed.1 in
+        as_turned t (check.fails e) h (fails.by_listing at failed.0 (record { later = x.later; grows = x.grows; behind = x.behind; says = fails_anyhow x.later (fields_in (listing_lines b at)) true TellsNoCursor e x.says }))
 
     indexes_so : (at : Place) (c : Step Sending (List ℕ)) (t : CheckTurned) → Runs old new log log' wire s c → HearsIndex b at c t → Came new past (fields_in (index_lines b at)) false c → TurnReads awaited past b t
     indexes_so at (came.Pending s') t runs h flies = as_turned t (check.pends (indexes at s')) h tt
@@ -190,8 +199,8 @@ module _ (old new : Awaited) (log log' : LogTold) (wire : ℤ) (b : ClientBucket
       let ran = ran_by false (creation_lines b at) s came_so (own_at c (creates at s) is sound) runs (under_at c (creates at s) is h) in
       (ran.calls', ran.told, ran.grows.keeps, creates_so new (past_of places since ran.calls' wire) b old new log log' wire s at came_so t runs hears ran.came)
   check_reads c t sound (check.by_listing at s is came_so runs hears) h l =
-      let ran = ran_by true (listing_lines b at) s came_so (own_at c (lists at s) is sound) runs (under_at c (lists at s) is h) in
-      (ran.calls', ran.told, ran.grows.keeps, lists_so new (past_of places since ran.calls' wire) b old new log log' wire s at came_so t runs hears ran.came)
+      let x = listing_ran old new log log' wire b at s came_so (own_at c (lists at s) is sound) runs calls told places since room (subst (CheckReads old (past_of places since calls wire) b) is l) in
+      (x.0, x.1, x.2, lists_so new (past_of places since x.0 wire) b old new log log' wire s at came_so t runs hears x.3)
   check_reads c t sound (check.by_advance at d found count is empties starts left poll seeks hears) h l =
       let x = seeks_list b wire places since count empties old new log log' starts d left poll (own_at c (reads at d found count) is sound).0 seeks calls told room (under_at c (reads at d found count) is h) (subst (CheckReads old (past_of places since calls wire) b) is l) in
       (x.0, x.1, x.2, advance_so new (past_of places since x.0 wire) b at left found count poll t x.3 hears)

@@ -37,7 +37,8 @@ use Rattle.mg_gridfs.specs.Commands.{any_lines, creation_lines, index_lines, lis
 use Rattle.mg_gridfs.specs.declared.indexes.Place.{Place}
 use Rattle.mg_gridfs.specs.declared.indexes.Place.TheVariants as place
 use Rattle.mg_players.specs.PutSends as sends
-use Rattle.mg_players.specs.PutSends.{IsCheckCommand, plain_manner}
+use Rattle.mg_players.specs.Gets.{no_manner}
+use Rattle.mg_players.specs.PutSends.{IsCheckCommand}
 use Rattle.mg_players.specs.Puts.{PutTask, put_bucket}
 use Rattle.mg_players.specs.Sends.{CheckFlies}
 use Rattle.mg_players.proofs.Sends.{manner_behind}
@@ -65,7 +66,7 @@ module _ (may : Fields → Type 0) where
 
 -- ---- the list of indexes
 
-more_flies : (t : PutTask) (c : ClientCursor) (s : Sending) → c.manner ≡ plain_manner → fields s.command ≡ get_more c None → IsCheckCommand (put_bucket t) (fields s.command)
+more_flies : (t : PutTask) (c : ClientCursor) (s : Sending) → c.manner ≡ no_manner → fields s.command ≡ get_more c None → IsCheckCommand (put_bucket t) (fields s.command)
 more_flies t c s plain is = sends.reads_on c.id c.space (is ∙ ap (λ (m : Manner). next_command c.id c.space m) plain)
 
 heard_manner : (c c' : ClientCursor) (x : Step Sending (List ℕ)) (r : NextPoll) → Hears c x c' r → c'.manner ≡ c.manner
@@ -97,10 +98,10 @@ kept_manner (try.Failed e) a = refl
 
 -- it adds such commands alone, and goes on to ask for more without options
 abbrev pub AsksOn : PutTask → LogTold → LogTold → DocumentCursor → Type 0
-AsksOn t log log' d = AddsTold (IsCheckCommand (put_bucket t)) log log' × (d.cursor.manner ≡ plain_manner)
+AsksOn t log log' d = AddsTold (IsCheckCommand (put_bucket t)) log log' × (d.cursor.manner ≡ no_manner)
 
 module _ (t : PutTask) (old new : Awaited) (log log' : LogTold) (wire : ℤ) where
-  next_sends : (started : Bool) (c c' : ClientCursor) (r : NextPoll) → IsSound true c → c.manner ≡ plain_manner → PollsNext old new log log' wire None started c c' r → AddsTold (IsCheckCommand (put_bucket t)) log log' × (c'.manner ≡ plain_manner)
+  next_sends : (started : Bool) (c c' : ClientCursor) (r : NextPoll) → IsSound true c → c.manner ≡ no_manner → PollsNext old new log log' wire None started c c' r → AddsTold (IsCheckCommand (put_bucket t)) log log' × (c'.manner ≡ no_manner)
   next_sends started c c' r sound plain (polls.hands_out reply doing quiet none is answer) = (told_same (IsCheckCommand (put_bucket t)) log log' quiet.log_same, ap (λ (y : ClientCursor). y.manner) is ∙ plain)
   next_sends started c c' r sound plain (polls.is_over doing over quiet none is answer) = (told_same (IsCheckCommand (put_bucket t)) log log' quiet.log_same, ap (λ (y : ClientCursor). y.manner) is ∙ plain)
   next_sends started c c' r sound plain (polls.not_built doing may e fails quiet none is answer) = (told_same (IsCheckCommand (put_bucket t)) log log' quiet.log_same, ap (λ (y : ClientCursor). y.manner) is ∙ plain)
@@ -114,18 +115,18 @@ module _ (t : PutTask) (old new : Awaited) (log log' : LogTold) (wire : ℤ) whe
         heard_manner c c' more.came r more.hears ∙ plain,
       )
 
-  once_sends : (started : Bool) (d d' : DocumentCursor) (r : TryPoll) → IsSound true d.cursor → d.cursor.manner ≡ plain_manner → AdvancesOnce old new log log' wire None started d d' r → AsksOn t log log' d'
+  once_sends : (started : Bool) (d d' : DocumentCursor) (r : TryPoll) → IsSound true d.cursor → d.cursor.manner ≡ no_manner → AdvancesOnce old new log log' wire None started d d' r → AsksOn t log log' d'
   once_sends started d d' r sound plain (documents.gives x xs some quiet none is answer) = (told_same (IsCheckCommand (put_bucket t)) log log' quiet.log_same, ap (λ (y : DocumentCursor). y.cursor.manner) is ∙ plain)
   once_sends started d d' r sound plain (documents.polls empty c p polled takes) = let n = next_sends started d.cursor c p sound plain polled in (n.0, taken_manner d c p d' r takes ∙ n.1)
 
-  try_sends : (started : Bool) (d d' : DocumentCursor) (r : TryPoll) → IsSound true d.cursor → d.cursor.manner ≡ plain_manner → TriesAdvance old new log log' wire None started d d' r → AsksOn t log log' d'
+  try_sends : (started : Bool) (d d' : DocumentCursor) (r : TryPoll) → IsSound true d.cursor → d.cursor.manner ≡ no_manner → TriesAdvance old new log log' wire None started d d' r → AsksOn t log log' d'
   try_sends started d d' r sound plain tries = let o = once_sends started d tries.advanced r sound plain tries.tries in (o.0, ap (λ (y : DocumentCursor). y.cursor.manner) tries.kept ∙ kept_manner r tries.advanced ∙ o.1)
 
 none_after : (started : Bool) → session_after started None ≡ None
 none_after true = refl
 none_after false = refl
 
-pub seeks_send : (t : PutTask) (n : ℕ) (old new : Awaited) (log log' : LogTold) (wire : ℤ) (starts : ℕ) (d d' : DocumentCursor) (r : AdvancePoll) → IsSound true d.cursor → d.cursor.manner ≡ plain_manner → SeeksDocument n old new log log' wire None starts d d' r → AsksOn t log log' d'
+pub seeks_send : (t : PutTask) (n : ℕ) (old new : Awaited) (log log' : LogTold) (wire : ℤ) (starts : ℕ) (d d' : DocumentCursor) (r : AdvancePoll) → IsSound true d.cursor → d.cursor.manner ≡ no_manner → SeeksDocument n old new log log' wire None starts d d' r → AsksOn t log log' d'
 unfolding SeeksDocument
 seeks_send t zero old new log log' wire starts d d' r sound plain seeks =
     let o = once_sends t old new log log' wire seeks.started d seeks.advanced seeks.poll sound plain seeks.tries in
@@ -173,19 +174,19 @@ created_flies b k c t (check.unread reply e is fails answer) = turn_as t (check.
 created_flies b k c t (check.other e is code answer) = turn_as t (check.fails e) answer tt
 
 -- the list is opened without options
-pub opened_plainly : (reply : List ℕ) (out : CursorSpecification) → OpensWith None None None reply out → (new_client out).manner ≡ plain_manner
+pub opened_plainly : (reply : List ℕ) (out : CursorSpecification) → OpensWith None None None reply out → (new_client out).manner ≡ no_manner
 opened_plainly reply out read = rw (read.opens.size_is, read.time_is, read.comment_is) refl
 
 list_flies : (k : Place) (reply : List ℕ) (t : CheckTurned) → HearsList k reply t → TurnFlies t
 list_flies k reply t (check.opened out opens is) = turn_as t _ is (opened_plainly reply out opens)
 list_flies k reply t (check.broke e fails is) = turn_as t (check.fails e) is tt
 
-look_flies : (k : Place) (cursor : DocumentCursor) (document : List ℕ) (found : Bool) (count : ℕ) (t : CheckTurned) → cursor.cursor.manner ≡ plain_manner → Looks k cursor document found count t → TurnFlies t
+look_flies : (k : Place) (cursor : DocumentCursor) (document : List ℕ) (found : Bool) (count : ℕ) (t : CheckTurned) → cursor.cursor.manner ≡ no_manner → Looks k cursor document found count t → TurnFlies t
 look_flies k cursor document found count t plain (check.looked i few read is) = turn_as t _ is plain
 look_flies k cursor document found count t plain (check.too_many many is) = turn_as t _ is tt
 look_flies k cursor document found count t plain (check.broke e fails is) = turn_as t (check.fails e) is tt
 
-advanced_flies : (b : ClientBucket) (k : Place) (cursor : DocumentCursor) (found : Bool) (count : ℕ) (poll : AdvancePoll) (t : CheckTurned) → cursor.cursor.manner ≡ plain_manner → HearsAdvance b k cursor found count poll t → TurnFlies t
+advanced_flies : (b : ClientBucket) (k : Place) (cursor : DocumentCursor) (found : Bool) (count : ℕ) (poll : AdvancePoll) (t : CheckTurned) → cursor.cursor.manner ≡ no_manner → HearsAdvance b k cursor found count poll t → TurnFlies t
 advanced_flies b k cursor found count advance.Pending t plain h = turn_as t (check.pends (reads k cursor found count)) h plain
 advanced_flies b k cursor found count (advance.Ready true) t plain h = look_flies k cursor h.0 found count t plain h.2
 advanced_flies b k cursor found count (advance.Ready false) t plain h = listed_flies b k found t h
@@ -228,7 +229,7 @@ landed_flies then flies (came.Pending s) t is = left_as t (Some (then s)) is (fl
 landed_flies then flies (came.Done reply) t is = left_as t None is tt
 landed_flies then flies (came.Failed e) t is = left_as t None is tt
 
-list_left : (k : Place) (cursor : DocumentCursor) (found : Bool) (count : ℕ) (poll : TryPoll) (t : Option ClientCheck) → cursor.cursor.manner ≡ plain_manner → LandsAdvance k cursor found count poll t → LeftFlies t
+list_left : (k : Place) (cursor : DocumentCursor) (found : Bool) (count : ℕ) (poll : TryPoll) (t : Option ClientCheck) → cursor.cursor.manner ≡ no_manner → LandsAdvance k cursor found count poll t → LeftFlies t
 list_left k cursor found count try.Pending t plain is = left_as t (Some (reads k cursor found count)) is plain
 list_left k cursor found count (try.Ready a) t plain is = left_as t None is tt
 list_left k cursor found count (try.Failed e) t plain is = left_as t None is tt

@@ -6,16 +6,16 @@ use Rattle.mg_link.proofs.Chunking.{chunked-append, chunked_short, length-chunke
 use Rattle.mg_options.specs.Fields.{fields_in}
 use Rattle.mg_gridfs.specs.Commands.{chunk_documents, chunks_lines}
 use Rattle.mg_players.specs.PutSends.{InsertsChunks, file_chunks}
-use Rattle.mg_players.specs.Puts.{PutTask, joined, put_bucket}
+use Rattle.mg_players.specs.Puts.{ComeNext, PutTask, Supply, joined, put_bucket}
 
 some_last : (bs : List ℕ) → bs ≢ [] → last_chunk bs ≡ bs ∷ []
 some_last [] some = absurd (some refl)
 some_last (b ∷ bs) some = refl
 
-module _ (t : PutTask) (room : 0 < t.chunk) (from : ℕ) (front : List ℕ) (even : length front ≡ from * t.chunk) where
+module _ (supply : Supply) (t : PutTask) (room : 0 < t.chunk) (from : ℕ) (front : List ℕ) (even : length front ≡ from * t.chunk) where
   -- full chunks that come next
-  pub full_inserts : (count : ℕ) (these rest : List ℕ) → 0 < count → joined t.pieces ≡ front ++ these ++ rest → length these ≡ count * t.chunk → (ids : ℕ → List ℕ) (command : Fields) → command ≡ fields_in (chunks_lines (put_bucket t) (chunk_documents ids 0 t.id from (chunked t.chunk these))) → InsertsChunks t from (from + count) command
-  full_inserts count these rest some parts full ids command is =
+  pub full_inserts : (count : ℕ) (these rest : List ℕ) → 0 < count → joined t.pieces ≡ front ++ these ++ rest → length these ≡ count * t.chunk → (ids : ℕ → List ℕ) → ComeNext supply t ids from → (command : Fields) → command ≡ fields_in (chunks_lines (put_bucket t) (chunk_documents ids 0 t.id from (chunked t.chunk these))) → InsertsChunks supply t from (from + count) command
+  full_inserts count these rest some parts full ids come command is =
       let F : List (List ℕ) = chunked t.chunk front in
       let P : List (List ℕ) = chunked t.chunk these in
       let R : List (List ℕ) = chunked t.chunk rest in
@@ -30,12 +30,13 @@ module _ (t : PutTask) (room : 0 < t.chunk) (from : ℕ) (front : List ℕ) (eve
         some = subst (λ (n : ℕ). 0 < n) (sym many) some;
         next = ap (λ (n : ℕ). from + n) many;
         ids = ids;
+        drawn = come;
         command_is = is;
       }
 
   -- what is left behind them, as the last one
-  pub last_inserts : (left : List ℕ) → joined t.pieces ≡ front ++ left → left ≢ [] → length left < t.chunk → (ids : ℕ → List ℕ) (command : Fields) → command ≡ fields_in (chunks_lines (put_bucket t) (chunk_documents ids 0 t.id from (left ∷ []))) → InsertsChunks t from (length (file_chunks t)) command
-  last_inserts left parts some short ids command is =
+  pub last_inserts : (left : List ℕ) → joined t.pieces ≡ front ++ left → left ≢ [] → length left < t.chunk → (ids : ℕ → List ℕ) → ComeNext supply t ids from → (command : Fields) → command ≡ fields_in (chunks_lines (put_bucket t) (chunk_documents ids 0 t.id from (left ∷ []))) → InsertsChunks supply t from (length (file_chunks t)) command
+  last_inserts left parts some short ids come command is =
       let F : List (List ℕ) = chunked t.chunk front in
       let cut : file_chunks t ≡ F ++ left ∷ [] = ap (λ (l : List ℕ). chunked t.chunk l) parts ∙ chunked-append from t.chunk front left room even ∙ ap (λ (l : List (List ℕ)). F ++ l) (chunked_short t.chunk left short ∙ some_last left some) in
       let before : length F ≡ from = length-chunked from t.chunk front room even in
@@ -48,6 +49,7 @@ module _ (t : PutTask) (room : 0 < t.chunk) (from : ℕ) (front : List ℕ) (eve
         some = omega arith;
         next = ap (λ (n : ℕ). n + 1) (sym before) ∙ sym (length-append F (left ∷ [])) ∙ ap length (sym cut);
         ids = ids;
+        drawn = come;
         command_is = is;
       }
 

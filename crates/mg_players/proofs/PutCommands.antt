@@ -16,7 +16,7 @@ use Rattle.mg_ops.specs.Logs.{AddsJust, commands_sent}
 use Rattle.mg_ops.proofs.Logs.{commands_seen, done_first, failed_first, just_none, just_on, pending_first}
 use Rattle.mg_gridfs.specs.Buckets.{ClientBucket}
 use Rattle.mg_players.specs.PutSends.{AreOfCheck, Around, ChunkPieces, InsertsChunks, IsCheckCommand, NeedsNoCheck, PutSends, SentAll, SentChunks, SentSome, chunks_removal, record_at, record_insert}
-use Rattle.mg_players.specs.Puts.{PutTask, total}
+use Rattle.mg_players.specs.Puts.{IsMoment, PutTask, Supply, total}
 use Rattle.mg_players.proofs.PutChecking.{AddsTold}
 
 -- ---- lists
@@ -35,22 +35,22 @@ of_check_on b (c ∷ commands) more its rest = (its.0, of_check_on b commands mo
 
 -- ---- chunks
 
-pieces_on : (t : PutTask) (from : ℕ) (commands : List Fields) (between : ℕ) (command : Fields) (upto : ℕ) → ChunkPieces t from commands between → InsertsChunks t between upto command → ChunkPieces t from (commands ++ command ∷ []) upto
-pieces_on t from [] between command upto is next = (upto, subst (λ (n : ℕ). InsertsChunks t n upto command) is next, refl)
-pieces_on t from (c ∷ commands) between command upto head next = (head.0, head.1, pieces_on t head.0 commands between command upto head.2 next)
+pieces_on : (supply : Supply) (t : PutTask) (from : ℕ) (commands : List Fields) (between : ℕ) (command : Fields) (upto : ℕ) → ChunkPieces supply t from commands between → InsertsChunks supply t between upto command → ChunkPieces supply t from (commands ++ command ∷ []) upto
+pieces_on supply t from [] between command upto is next = (upto, subst (λ (n : ℕ). InsertsChunks supply t n upto command) is next, refl)
+pieces_on supply t from (c ∷ commands) between command upto head next = (head.0, head.1, pieces_on supply t head.0 commands between command upto head.2 next)
 
 -- ---- one command more
 
-pub sent_nothing : (t : PutTask) → SentChunks t [] false 0
-sent_nothing t = record { check = []; chunks = []; parts = refl; of_check = tt; pieces = refl; some = λ is. absurd cc; nothing = λ is. refl }
+pub sent_nothing : (supply : Supply) (t : PutTask) → SentChunks supply t [] false 0
+sent_nothing supply t = record { check = []; chunks = []; parts = refl; of_check = tt; pieces = refl; some = λ is. absurd cc; nothing = λ is. refl }
 
-pub chunks_more : (t : PutTask) (commands : List Fields) (from upto : ℕ) (command : Fields) → InsertsChunks t from upto command → SentChunks t commands true from → SentChunks t (commands ++ command ∷ []) true upto
-chunks_more t commands from upto command next s = record {
+pub chunks_more : (supply : Supply) (t : PutTask) (commands : List Fields) (from upto : ℕ) (command : Fields) → InsertsChunks supply t from upto command → SentChunks supply t commands true from → SentChunks supply t (commands ++ command ∷ []) true upto
+chunks_more supply t commands from upto command next s = record {
   check = s.check;
   chunks = s.chunks ++ command ∷ [];
   parts = ap (λ (l : List Fields). l ++ command ∷ []) s.parts ∙ append_assoc s.check s.chunks (command ∷ []);
   of_check = s.of_check;
-  pieces = pieces_on t 0 s.chunks from command upto s.pieces next;
+  pieces = pieces_on supply t 0 s.chunks from command upto s.pieces next;
   some = s.some;
   nothing = λ is. absurd cc;
 }
@@ -60,8 +60,8 @@ check_comes : (t : PutTask) (checked : Bool) (check : List Fields) → (checked 
 check_comes t checked check some (inl is) full = some is
 check_comes t checked check some (inr small) full = absurd (omega (arith, small, full))
 
-pub sends_chunks : (t : PutTask) (commands : List Fields) (checked : Bool) (upto : ℕ) → (0 < upto → NeedsNoCheck t checked) → SentChunks t commands checked upto → PutSends t commands upto None false
-sends_chunks t commands checked upto may s = record {
+pub sends_chunks : (supply : Supply) (t : PutTask) (commands : List Fields) (checked : Bool) (upto : ℕ) → (0 < upto → NeedsNoCheck t checked) → SentChunks supply t commands checked upto → PutSends supply t commands upto None false
+sends_chunks supply t commands checked upto may s = record {
   check = s.check;
   chunks = s.chunks;
   parts = s.parts ∙ ap (λ (l : List Fields). s.check ++ l) (sym (append-nil s.chunks));
@@ -69,21 +69,23 @@ sends_chunks t commands checked upto may s = record {
   pieces = s.pieces;
   checked = λ some full. check_comes t checked s.check s.some (may some) full;
   recorded = λ m is. absurd cc;
+  timely = λ m is. absurd cc;
 }
 
-pub last_more : (t : PutTask) (commands : List Fields) (checked : Bool) (from upto : ℕ) (command : Fields) → InsertsChunks t from upto command → SentChunks t commands checked from → NeedsNoCheck t checked → PutSends t (commands ++ command ∷ []) upto None false
-last_more t commands checked from upto command next s may = record {
+pub last_more : (supply : Supply) (t : PutTask) (commands : List Fields) (checked : Bool) (from upto : ℕ) (command : Fields) → InsertsChunks supply t from upto command → SentChunks supply t commands checked from → NeedsNoCheck t checked → PutSends supply t (commands ++ command ∷ []) upto None false
+last_more supply t commands checked from upto command next s may = record {
   check = s.check;
   chunks = s.chunks ++ command ∷ [];
   parts = ap (λ (l : List Fields). l ++ command ∷ []) s.parts ∙ append_assoc s.check s.chunks (command ∷ []) ∙ ap (λ (l : List Fields). s.check ++ l) (sym (append-nil (s.chunks ++ command ∷ [])));
   of_check = s.of_check;
-  pieces = pieces_on t 0 s.chunks from command upto s.pieces next;
+  pieces = pieces_on supply t 0 s.chunks from command upto s.pieces next;
   checked = λ some full. check_comes t checked s.check s.some may full;
   recorded = λ m is. absurd cc;
+  timely = λ m is. absurd cc;
 }
 
-pub record_more : (t : PutTask) (commands : List Fields) (moment : ℤ) (command : Fields) → command ≡ record_insert t moment → SentAll t commands None → SentAll t (commands ++ command ∷ []) (Some moment)
-record_more t commands moment command is s = record {
+pub record_more : (supply : Supply) (t : PutTask) (commands : List Fields) (moment : ℤ) (command : Fields) → IsMoment supply.moment moment → command ≡ record_insert t moment → SentAll supply t commands None → SentAll supply t (commands ++ command ∷ []) (Some moment)
+record_more supply t commands moment command its is s = record {
   check = s.check;
   chunks = s.chunks;
   parts = ap (λ (l : List Fields). l ++ command ∷ []) s.parts ∙ append_assoc s.check (s.chunks ++ []) (command ∷ []) ∙ ap (λ (l : List Fields). s.check ++ l) (append_assoc s.chunks [] (command ∷ [])) ∙ ap (λ (c : Fields). s.check ++ (s.chunks ++ c ∷ [])) is;
@@ -91,10 +93,11 @@ record_more t commands moment command is s = record {
   pieces = s.pieces;
   checked = s.checked;
   recorded = λ m there. refl;
+  timely = λ m there. (let same : moment ≡ m = cc in subst (IsMoment supply.moment) same its);
 }
 
-pub removal_more : (t : PutTask) (commands : List Fields) (command : Fields) → command ≡ chunks_removal t → SentSome t commands false → SentSome t (commands ++ command ∷ []) true
-removal_more t commands command is s =
+pub removal_more : (supply : Supply) (t : PutTask) (commands : List Fields) (command : Fields) → command ≡ chunks_removal t → SentSome supply t commands false → SentSome supply t (commands ++ command ∷ []) true
+removal_more supply t commands command is s =
     let p = s.2 in
     let R : List Fields = record_at t s.1 in (
       s.0,
@@ -109,6 +112,7 @@ removal_more t commands command is s =
         pieces = p.pieces;
         checked = p.checked;
         recorded = p.recorded;
+        timely = p.timely;
       },
     )
 

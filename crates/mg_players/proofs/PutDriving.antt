@@ -14,6 +14,8 @@ use Rattle.mg_gridfs.specs.declared.polls.Step2.TheVariants as end
 use Rattle.mg_gridfs.specs.declared.polls.WritePoll.TheVariants as wrote
 use Rattle.mg_script.specs.Plan.{piece, pieces}
 use Rattle.mg_script.specs.declared.outcome.Ended.TheVariants as ended
+use Rattle.mg_players.specs.Drawing.{supply_from}
+use Rattle.mg_players.specs.Kept.{ids_left}
 use Rattle.mg_players.specs.Progress.{HoldsIf, PutGoes}
 use Rattle.mg_players.specs.Puts.{HoldsUpload, IsPutDoing, PutTask, writes}
 use Rattle.mg_players.specs.Putting.{PutTurns}
@@ -28,8 +30,8 @@ use Rattle.mg_players.proofs.Telling.{answered_by, extends_answered, extends_goi
 
 -- ---- the put behind a poll, by another name
 
-pub turns_as : (old new : Awaited) (log log' : LogTold) (wire : ℤ) (p x r : PutPlayer) → r ≡ x → PutTurns old new log log' wire p x → PutTurns old new log log' wire p r
-turns_as old new log log' wire p x r is turns = subst (PutTurns old new log log' wire p) (sym is) turns
+pub turns_as : (old new : Awaited) (log log' : LogTold) (wire moment : ℤ) (p x r : PutPlayer) → r ≡ x → PutTurns old new log log' wire moment p x → PutTurns old new log log' wire moment p r
+turns_as old new log log' wire moment p x r is turns = subst (PutTurns old new log log' wire moment p) (sym is) turns
 
 pub comes_as : (before now : ℕ) (p x r : PutPlayer) → r ≡ x → PutGoes before now p x → PutGoes before now p r
 comes_as before now p x r is goes = subst (PutGoes before now p) (sym is) goes
@@ -56,7 +58,7 @@ failed_pends e (Some other) ticket before now pended = pended
 
 -- ---- a write
 
-module _ (p : PutPlayer) (going going' : Going) (bytes : List ℕ) (old new : Awaited) (log log' : LogTold) (wire : ℤ) (there : slice_get (pieces p.what.pieces.now) p.done ≡ Some bytes) (holds : HoldsUpload going.upload p.done (length (pieces p.what.pieces.now))) (length_is : going'.length ≡ going.length) where
+module _ (moment : ℤ) (p : PutPlayer) (going going' : Going) (bytes : List ℕ) (old new : Awaited) (log log' : LogTold) (wire : ℤ) (there : slice_get (pieces p.what.pieces.now) p.done ≡ Some bytes) (holds : HoldsUpload going.upload p.done (length (pieces p.what.pieces.now))) (length_is : going'.length ≡ going.length) where
   abbrev T : PutTask
   T = writes p.what
 
@@ -66,60 +68,67 @@ module _ (p : PutPlayer) (going going' : Going) (bytes : List ℕ) (old new : Aw
   abbrev U' : ClientUpload
   U' = upload_of going'.upload
 
+  -- what its source gives before the poll, and behind it
+  abbrev Ids : ℕ → List ℕ
+  Ids = ids_left going.ids
+
+  abbrev Later : ℕ → List ℕ
+  Later = ids_left going'.ids
+
   abbrev Before : PutPlayer
   Before = record p { stage = puts.Goes going }
 
   within : p.done < length T.pieces
   within = get_within T.pieces p.done bytes there
 
-  pub write_waits_turns : IsUpload going'.upload → WritePolled old new log log' wire U U' bytes wrote.Pending → PutTurns old new log log' wire Before (record p { stage = puts.Goes going' })
+  pub write_waits_turns : IsUpload going'.upload → WritePolled Ids Later old new log log' wire U U' bytes wrote.Pending → PutTurns old new log log' wire moment Before (record p { stage = puts.Goes going' })
   write_waits_turns sound polled = record {
     same = refl;
     tickets = polled.tickets;
     holds = record { sound = sound; doing = subst (λ (d : Doing). IsPutDoing d p.done (length T.pieces)) (sym polled.leaves.2) (omega (arith, within)) };
     has = tt;
     turned = λ calls told o at plays. put_still old new log log' U U' polled.passes calls told o plays (record p { stage = puts.Goes going' }) going' at refl refl;
-    told = λ calls calls' told told' ids n may q at at' placed o plays says.
+    told = λ calls calls' told told' supply n may q at at' placed o plays says.
         record {
-          longer = write_room T old new log log' wire U U' bytes wrote.Pending polled holds.sound.between p.done there holds.doing calls calls' told told' q says.0;
+          longer = write_room (supply_from supply n) T Ids Later old new log log' wire U U' bytes wrote.Pending polled holds.sound.between p.done there holds.doing calls calls' told told' q says.0;
           places = going_on q (length calls) (length calls');
-          tells = (write_waits T old new log log' wire U U' bytes wrote.Pending polled holds.sound.between p.done there holds.doing calls calls' told told' q says.0 refl, length_is ∙ says.1);
-          extends = extends_going q (suc p.done) (suc p.done) (length calls) (length calls') refl (write_room T old new log log' wire U U' bytes wrote.Pending polled holds.sound.between p.done there holds.doing calls calls' told told' q says.0);
-          adds = write_adds T old new log log' wire U U' bytes wrote.Pending polled holds.sound.between p.done there holds.doing calls calls' told told' q says.0;
+          tells = (write_waits (supply_from supply n) T Ids Later old new log log' wire U U' bytes wrote.Pending polled holds.sound.between p.done there holds.doing calls calls' told told' q says.0 refl, length_is ∙ says.1);
+          extends = extends_going q (suc p.done) (suc p.done) (length calls) (length calls') refl (write_room (supply_from supply n) T Ids Later old new log log' wire U U' bytes wrote.Pending polled holds.sound.between p.done there holds.doing calls calls' told told' q says.0);
+          adds = write_adds (supply_from supply n) T Ids Later old new log log' wire U U' bytes wrote.Pending polled holds.sound.between p.done there holds.doing calls calls' told told' q says.0;
         };
   }
 
-  pub write_done_turns : (n : ℕ) → IsUpload going'.upload → WritePolled old new log log' wire U U' bytes (wrote.Wrote n) → PutTurns old new log log' wire Before (record p { stage = puts.Goes going'; done = p.done + 1 })
+  pub write_done_turns : (n : ℕ) → IsUpload going'.upload → WritePolled Ids Later old new log log' wire U U' bytes (wrote.Wrote n) → PutTurns old new log log' wire moment Before (record p { stage = puts.Goes going'; done = p.done + 1 })
   write_done_turns n sound polled = record {
     same = refl;
     tickets = polled.tickets;
     holds = record { sound = sound; doing = subst (λ (d : Doing). IsPutDoing d (p.done + 1) (length T.pieces)) (sym polled.leaves.0) (omega (arith, within)) };
     has = tt;
     turned = λ calls told o at plays. put_still old new log log' U U' polled.passes calls told o plays (record p { stage = puts.Goes going'; done = p.done + 1 }) going' at refl refl;
-    told = λ calls calls' told told' ids m may q at at' placed o plays says.
+    told = λ calls calls' told told' supply m may q at at' placed o plays says.
         record {
-          longer = write_room T old new log log' wire U U' bytes (wrote.Wrote n) polled holds.sound.between p.done there holds.doing calls calls' told told' q says.0;
+          longer = write_room (supply_from supply m) T Ids Later old new log log' wire U U' bytes (wrote.Wrote n) polled holds.sound.between p.done there holds.doing calls calls' told told' q says.0;
           places = answered_by q (length calls) (length calls');
-          tells = (write_done T old new log log' wire U U' bytes (wrote.Wrote n) polled holds.sound.between p.done there holds.doing calls calls' told told' q says.0 n refl, length_is ∙ says.1);
-          extends = extends_answered q (suc p.done) (suc (p.done + 1)) (length calls) (length calls') (ap suc (sym says.0.counted)) (write_room T old new log log' wire U U' bytes (wrote.Wrote n) polled holds.sound.between p.done there holds.doing calls calls' told told' q says.0);
-          adds = write_adds T old new log log' wire U U' bytes (wrote.Wrote n) polled holds.sound.between p.done there holds.doing calls calls' told told' q says.0;
+          tells = (write_done (supply_from supply m) T Ids Later old new log log' wire U U' bytes (wrote.Wrote n) polled holds.sound.between p.done there holds.doing calls calls' told told' q says.0 n refl, length_is ∙ says.1);
+          extends = extends_answered q (suc p.done) (suc (p.done + 1)) (length calls) (length calls') (ap suc (sym says.0.counted)) (write_room (supply_from supply m) T Ids Later old new log log' wire U U' bytes (wrote.Wrote n) polled holds.sound.between p.done there holds.doing calls calls' told told' q says.0);
+          adds = write_adds (supply_from supply m) T Ids Later old new log log' wire U U' bytes (wrote.Wrote n) polled holds.sound.between p.done there holds.doing calls calls' told told' q says.0;
         };
   }
 
-  pub write_fails_turns : (e : Error) → WritePolled old new log log' wire U U' bytes (wrote.Failed e) → PutTurns old new log log' wire Before (record p { stage = puts.Ended (ended.Failed e) })
+  pub write_fails_turns : (e : Error) → WritePolled Ids Later old new log log' wire U U' bytes (wrote.Failed e) → PutTurns old new log log' wire moment Before (record p { stage = puts.Ended (ended.Failed e) })
   write_fails_turns e polled = record {
     same = refl;
     tickets = let_go old new (upload_ticket U) (upload_ticket U') (none_written U U' e p.done (length T.pieces) holds.doing within polled.leaves) polled.tickets;
     holds = tt;
     has = tt;
     turned = λ calls told o at plays. put_over old new log log' U U' polled.passes calls told o plays (record p { stage = puts.Ended (ended.Failed e) }) (ended.Failed e) at refl;
-    told = λ calls calls' told told' ids n may q at at' placed o plays says.
+    told = λ calls calls' told told' supply n may q at at' placed o plays says.
         record {
-          longer = write_room T old new log log' wire U U' bytes (wrote.Failed e) polled holds.sound.between p.done there holds.doing calls calls' told told' q says.0;
+          longer = write_room (supply_from supply n) T Ids Later old new log log' wire U U' bytes (wrote.Failed e) polled holds.sound.between p.done there holds.doing calls calls' told told' q says.0;
           places = going_on q (length calls) (length calls');
-          tells = (says.0.opened, says.0.counted, inr (says.0.sized, write_fails T old new log log' wire U U' bytes (wrote.Failed e) polled holds.sound.between p.done there holds.doing calls calls' told told' q says.0 e refl, write_clears T old new log log' wire U U' bytes (wrote.Failed e) polled holds.sound.between p.done there holds.doing calls calls' told told' q says.0 e refl), tt, write_said T old new log log' wire U U' bytes (wrote.Failed e) polled holds.sound.between p.done there holds.doing calls calls' told told' q says.0 e refl);
-          extends = extends_going q (suc p.done) (suc p.done) (length calls) (length calls') refl (write_room T old new log log' wire U U' bytes (wrote.Failed e) polled holds.sound.between p.done there holds.doing calls calls' told told' q says.0);
-          adds = write_adds T old new log log' wire U U' bytes (wrote.Failed e) polled holds.sound.between p.done there holds.doing calls calls' told told' q says.0;
+          tells = (says.0.opened, says.0.counted, inr (says.0.sized, write_fails (supply_from supply n) T Ids Later old new log log' wire U U' bytes (wrote.Failed e) polled holds.sound.between p.done there holds.doing calls calls' told told' q says.0 e refl, write_clears (supply_from supply n) T Ids Later old new log log' wire U U' bytes (wrote.Failed e) polled holds.sound.between p.done there holds.doing calls calls' told told' q says.0 e refl), tt, write_said (supply_from supply n) T Ids Later old new log log' wire U U' bytes (wrote.Failed e) polled holds.sound.between p.done there holds.doing calls calls' told told' q says.0 e refl);
+          extends = extends_going q (suc p.done) (suc p.done) (length calls) (length calls') refl (write_room (supply_from supply n) T Ids Later old new log log' wire U U' bytes (wrote.Failed e) polled holds.sound.between p.done there holds.doing calls calls' told told' q says.0);
+          adds = write_adds (supply_from supply n) T Ids Later old new log log' wire U U' bytes (wrote.Failed e) polled holds.sound.between p.done there holds.doing calls calls' told told' q says.0;
         };
   }
 
@@ -165,7 +174,7 @@ by_doing (busy close p) made count all doing = doing
 by_doing (busy abort p) made count all doing = absurd doing
 by_doing closed made count all doing = absurd doing
 
-module _ (p : PutPlayer) (going going' : Going) (old new : Awaited) (log log' : LogTold) (wire : ℤ) (all : length (pieces p.what.pieces.now) ≤ p.done) (holds : HoldsUpload going.upload p.done (length (pieces p.what.pieces.now))) (length_is : going'.length ≡ going.length) where
+module _ (moment : ℤ) (p : PutPlayer) (going going' : Going) (old new : Awaited) (log log' : LogTold) (wire : ℤ) (all : length (pieces p.what.pieces.now) ≤ p.done) (holds : HoldsUpload going.upload p.done (length (pieces p.what.pieces.now))) (length_is : going'.length ≡ going.length) where
   abbrev Task : PutTask
   Task = writes p.what
 
@@ -175,6 +184,12 @@ module _ (p : PutPlayer) (going going' : Going) (old new : Awaited) (log log' : 
   abbrev V' : ClientUpload
   V' = upload_of going'.upload
 
+  abbrev Source : ℕ → List ℕ
+  Source = ids_left going.ids
+
+  abbrev Source' : ℕ → List ℕ
+  Source' = ids_left going'.ids
+
   abbrev Open : PutPlayer
   Open = record p { stage = puts.Goes going }
 
@@ -182,54 +197,54 @@ module _ (p : PutPlayer) (going going' : Going) (old new : Awaited) (log log' : 
   all_made : p.done ≡ length (pieces p.what.pieces.now)
   all_made = by_doing V.doing p.done (length (pieces p.what.pieces.now)) all holds.doing
 
-  pub close_waits_turns : IsUpload going'.upload → ClosePolled old new log log' wire V V' end.Pending → PutTurns old new log log' wire Open (record p { stage = puts.Goes going' })
+  pub close_waits_turns : IsUpload going'.upload → ClosePolled Source Source' moment old new log log' wire V V' end.Pending → PutTurns old new log log' wire moment Open (record p { stage = puts.Goes going' })
   close_waits_turns sound polled = record {
     same = refl;
     tickets = polled.tickets;
     holds = record { sound = sound; doing = subst (λ (d : Doing). IsPutDoing d p.done (length (pieces p.what.pieces.now))) (sym polled.leaves.1) all_made };
     has = tt;
     turned = λ calls told o at plays. put_still old new log log' V V' polled.passes calls told o plays (record p { stage = puts.Goes going' }) going' at refl refl;
-    told = λ calls calls' told told' ids n may q at at' placed o plays says.
+    told = λ calls calls' told told' supply n may q at at' placed o plays says.
         record {
-          longer = close_room Task old new log log' wire V V' end.Pending polled holds.sound.between p.done all holds.doing calls calls' told told' q says.0;
+          longer = close_room (supply_from supply n) Task Source Source' moment may old new log log' wire V V' end.Pending polled holds.sound.between p.done all holds.doing calls calls' told told' q says.0;
           places = going_on q (length calls) (length calls');
-          tells = (close_waits Task old new log log' wire V V' end.Pending polled holds.sound.between p.done all holds.doing calls calls' told told' q says.0 refl, length_is ∙ says.1);
-          extends = extends_going q (suc p.done) (suc p.done) (length calls) (length calls') refl (close_room Task old new log log' wire V V' end.Pending polled holds.sound.between p.done all holds.doing calls calls' told told' q says.0);
-          adds = close_adds Task old new log log' wire V V' end.Pending polled holds.sound.between p.done all holds.doing calls calls' told told' q says.0;
+          tells = (close_waits (supply_from supply n) Task Source Source' moment may old new log log' wire V V' end.Pending polled holds.sound.between p.done all holds.doing calls calls' told told' q says.0 refl, length_is ∙ says.1);
+          extends = extends_going q (suc p.done) (suc p.done) (length calls) (length calls') refl (close_room (supply_from supply n) Task Source Source' moment may old new log log' wire V V' end.Pending polled holds.sound.between p.done all holds.doing calls calls' told told' q says.0);
+          adds = close_adds (supply_from supply n) Task Source Source' moment may old new log log' wire V V' end.Pending polled holds.sound.between p.done all holds.doing calls calls' told told' q says.0;
         };
   }
 
-  pub close_done_turns : ClosePolled old new log log' wire V V' end.Done → PutTurns old new log log' wire Open (record p { stage = puts.Ended (ended.Gave going.length) })
+  pub close_done_turns : ClosePolled Source Source' moment old new log log' wire V V' end.Done → PutTurns old new log log' wire moment Open (record p { stage = puts.Ended (ended.Gave going.length) })
   close_done_turns polled = record {
     same = refl;
     tickets = let_go old new (upload_ticket V) (upload_ticket V') (ap ticket_by polled.leaves) polled.tickets;
     holds = tt;
     has = tt;
     turned = λ calls told o at plays. put_over old new log log' V V' polled.passes calls told o plays (record p { stage = puts.Ended (ended.Gave going.length) }) (ended.Gave going.length) at refl;
-    told = λ calls calls' told told' ids n may q at at' placed o plays says.
+    told = λ calls calls' told told' supply n may q at at' placed o plays says.
         record {
-          longer = close_room Task old new log log' wire V V' end.Done polled holds.sound.between p.done all holds.doing calls calls' told told' q says.0;
+          longer = close_room (supply_from supply n) Task Source Source' moment may old new log log' wire V V' end.Done polled holds.sound.between p.done all holds.doing calls calls' told told' q says.0;
           places = going_on q (length calls) (length calls');
-          tells = (says.0.opened, says.0.counted, (says.1 ∙ sym (joined_total (Task).pieces), says.0.sized, close_done Task old new log log' wire V V' end.Done polled holds.sound.between p.done all holds.doing calls calls' told told' q says.0 refl), all_made, close_said_done Task old new log log' wire V V' end.Done polled holds.sound.between p.done all holds.doing calls calls' told told' q says.0 going.length refl);
-          extends = extends_going q (suc p.done) (suc p.done) (length calls) (length calls') refl (close_room Task old new log log' wire V V' end.Done polled holds.sound.between p.done all holds.doing calls calls' told told' q says.0);
-          adds = close_adds Task old new log log' wire V V' end.Done polled holds.sound.between p.done all holds.doing calls calls' told told' q says.0;
+          tells = (says.0.opened, says.0.counted, (says.1 ∙ sym (joined_total (Task).pieces), says.0.sized, close_done (supply_from supply n) Task Source Source' moment may old new log log' wire V V' end.Done polled holds.sound.between p.done all holds.doing calls calls' told told' q says.0 refl), all_made, close_said_done (supply_from supply n) Task Source Source' moment may old new log log' wire V V' end.Done polled holds.sound.between p.done all holds.doing calls calls' told told' q says.0 going.length refl);
+          extends = extends_going q (suc p.done) (suc p.done) (length calls) (length calls') refl (close_room (supply_from supply n) Task Source Source' moment may old new log log' wire V V' end.Done polled holds.sound.between p.done all holds.doing calls calls' told told' q says.0);
+          adds = close_adds (supply_from supply n) Task Source Source' moment may old new log log' wire V V' end.Done polled holds.sound.between p.done all holds.doing calls calls' told told' q says.0;
         };
   }
 
-  pub close_fails_turns : (e : Error) → ClosePolled old new log log' wire V V' (end.Failed e) → PutTurns old new log log' wire Open (record p { stage = puts.Ended (ended.Failed e) })
+  pub close_fails_turns : (e : Error) → ClosePolled Source Source' moment old new log log' wire V V' (end.Failed e) → PutTurns old new log log' wire moment Open (record p { stage = puts.Ended (ended.Failed e) })
   close_fails_turns e polled = record {
     same = refl;
     tickets = let_go old new (upload_ticket V) (upload_ticket V') (none_closed V V' e p.done (length (pieces p.what.pieces.now)) holds.doing polled.leaves) polled.tickets;
     holds = tt;
     has = tt;
     turned = λ calls told o at plays. put_over old new log log' V V' polled.passes calls told o plays (record p { stage = puts.Ended (ended.Failed e) }) (ended.Failed e) at refl;
-    told = λ calls calls' told told' ids n may q at at' placed o plays says.
+    told = λ calls calls' told told' supply n may q at at' placed o plays says.
         record {
-          longer = close_room Task old new log log' wire V V' (end.Failed e) polled holds.sound.between p.done all holds.doing calls calls' told told' q says.0;
+          longer = close_room (supply_from supply n) Task Source Source' moment may old new log log' wire V V' (end.Failed e) polled holds.sound.between p.done all holds.doing calls calls' told told' q says.0;
           places = going_on q (length calls) (length calls');
-          tells = (says.0.opened, says.0.counted, inr (says.0.sized, close_fails Task old new log log' wire V V' (end.Failed e) polled holds.sound.between p.done all holds.doing calls calls' told told' q says.0 e refl, close_clears Task old new log log' wire V V' (end.Failed e) polled holds.sound.between p.done all holds.doing calls calls' told told' q says.0 e refl), tt, close_said_fails Task old new log log' wire V V' (end.Failed e) polled holds.sound.between p.done all holds.doing calls calls' told told' q says.0 e refl);
-          extends = extends_going q (suc p.done) (suc p.done) (length calls) (length calls') refl (close_room Task old new log log' wire V V' (end.Failed e) polled holds.sound.between p.done all holds.doing calls calls' told told' q says.0);
-          adds = close_adds Task old new log log' wire V V' (end.Failed e) polled holds.sound.between p.done all holds.doing calls calls' told told' q says.0;
+          tells = (says.0.opened, says.0.counted, inr (says.0.sized, close_fails (supply_from supply n) Task Source Source' moment may old new log log' wire V V' (end.Failed e) polled holds.sound.between p.done all holds.doing calls calls' told told' q says.0 e refl, close_clears (supply_from supply n) Task Source Source' moment may old new log log' wire V V' (end.Failed e) polled holds.sound.between p.done all holds.doing calls calls' told told' q says.0 e refl), tt, close_said_fails (supply_from supply n) Task Source Source' moment may old new log log' wire V V' (end.Failed e) polled holds.sound.between p.done all holds.doing calls calls' told told' q says.0 e refl);
+          extends = extends_going q (suc p.done) (suc p.done) (length calls) (length calls') refl (close_room (supply_from supply n) Task Source Source' moment may old new log log' wire V V' (end.Failed e) polled holds.sound.between p.done all holds.doing calls calls' told told' q says.0);
+          adds = close_adds (supply_from supply n) Task Source Source' moment may old new log log' wire V V' (end.Failed e) polled holds.sound.between p.done all holds.doing calls calls' told told' q says.0;
         };
   }
 

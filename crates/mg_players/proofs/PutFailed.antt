@@ -24,10 +24,10 @@ use Rattle.mg_gridfs.proofs.Calling.{bounds_bytes}
 use Rattle.mg_gridfs.proofs.Polled.{begun_sound, begun_writes, bounds_doing}
 use Rattle.mg_players.specs.PutFailures as fails
 use Rattle.mg_players.specs.PutFailures.{AnswersPut, PutFails, PutReads}
-use Rattle.mg_players.specs.Puts.{CutBy, IsCutAt, IsPutDoing, PutTask, joined, put_aim, put_bucket, taken_in}
+use Rattle.mg_players.specs.Puts.{CutBy, DoingSupplied, IsCutAt, IsMoment, IsPutDoing, PutTask, Supply, joined, put_aim, put_bucket, taken_in}
 use Rattle.mg_players.specs.Sends.{PutFlies}
 use Rattle.mg_players.proofs.PutFailing.{FailsWell, PhaseStands, steps_fail}
-use Rattle.mg_players.proofs.PutPolled.{cut_doing, first_cut, first_flies, no_write, phase_doing, rest_of, sound_on, takes, takes_close, takes_write}
+use Rattle.mg_players.proofs.PutPolled.{cut_doing, first_cut, first_flies, first_supplied, no_write, phase_doing, rest_of, sound_on, takes, takes_close, takes_write}
 use Rattle.mg_players.proofs.PutSending.{Fits}
 
 -- what is known of an upload that goes on
@@ -66,7 +66,7 @@ first_under : (awaited : Awaited) (past : Past) (aim : Aim) (b : Bool) → Phase
 first_under awaited past aim true = tt
 first_under awaited past aim false = tt
 
-module _ (t : PutTask) (old new : Awaited) (log log' : LogTold) (wire : ℤ) (ids : ℕ → List ℕ) (drawn : ℕ) (twelve : (k : ℕ) → length (ids k) ≡ 12) (u u' : ClientUpload) (between : IsBetween u) (aim : u.aim ≡ put_aim t) (calls : List Call) (told : log ≡ Some calls) (places : List ℕ) (under : IsUploading old (past_of places (length calls) calls wire) u) (stands : UploadStands t old (past_of places (length calls) calls wire) u) where
+module _ (supply : Supply) (t : PutTask) (old new : Awaited) (log log' : LogTold) (wire : ℤ) (ids : ℕ → List ℕ) (drawn : ℕ) (twelve : (k : ℕ) → length (ids k) ≡ 12) (u u' : ClientUpload) (between : IsBetween u) (aim : u.aim ≡ put_aim t) (calls : List Call) (told : log ≡ Some calls) (places : List ℕ) (under : IsUploading old (past_of places (length calls) calls wire) u) (stands : UploadStands t old (past_of places (length calls) calls wire) u) (so : DoingSupplied supply t ids u.sent u.doing) where
   abbrev Before : Past
   Before = past_of places (length calls) calls wire
 
@@ -82,14 +82,14 @@ module _ (t : PutTask) (old new : Awaited) (log log' : LogTold) (wire : ℤ) (id
   abbrev Ran : Stepped → Type 0
   Ran s = Grew places (length calls) calls log' wire (λ past. FailsWell t new past s)
 
-  driven_well : (taken rest : List ℕ) → joined t.pieces ≡ taken ++ rest → (call : uploads.Call) → Fits call rest → (p : Phase) → u.doing ≡ busy call p → CutBy u taken (busy call p) → PutFlies t u.doing → (s : Stepped) → Drives old new log log' wire ids drawn call u u' p s → Ran s
+  driven_well : (taken rest : List ℕ) → joined t.pieces ≡ taken ++ rest → (call : uploads.Call) → Fits call rest → (p : Phase) → u.doing ≡ busy call p → CutBy u taken (busy call p) → PutFlies supply t u.doing → (s : Stepped) → Drives old new log log' wire ids drawn call u u' p s → Ran s
   driven_well taken rest whole call fits p is cut flies s d =
-      let sound = sound_on t old new log log' wire ids drawn u u' between aim call p is in
-      steps_fail t taken rest whole call fits d.steps old new log log' wire ids drawn twelve (at_work u) d.left p s aim (bounds_doing u idle between.sound.bounds) sound.0 sound.1 (phase_doing u idle taken p cut) (subst (PutFlies t) is flies) calls told places (length calls) all_since (stands_at call p is) (under_at call p is) d.does
+      let sound = sound_on supply t old new log log' wire ids drawn u u' between aim call p is in
+      steps_fail supply t taken rest whole call fits d.steps old new log log' wire ids drawn twelve (at_work u) d.left p s aim (bounds_doing u idle between.sound.bounds) sound.0 sound.1 (phase_doing u idle taken p cut) (subst (PutFlies supply t) is flies) (subst (DoingSupplied supply t ids u.sent) is so) calls told places (length calls) all_since (stands_at call p is) (under_at call p is) d.does
 
   -- ---- a write
 
-  module _ (bytes : List ℕ) (made : ℕ) (there : slice_get t.pieces made ≡ Some bytes) (within : made < length t.pieces) (doing : IsPutDoing u.doing made (length t.pieces)) (cut : CutBy u (taken_in u.doing t.pieces made) u.doing) (flies : PutFlies t u.doing) where
+  module _ (bytes : List ℕ) (made : ℕ) (there : slice_get t.pieces made ≡ Some bytes) (within : made < length t.pieces) (doing : IsPutDoing u.doing made (length t.pieces)) (cut : CutBy u (taken_in u.doing t.pieces made) u.doing) (flies : PutFlies supply t u.doing) where
     abbrev Taken : List ℕ
     Taken = joined (take (made + 1) t.pieces)
 
@@ -97,14 +97,14 @@ module _ (t : PutTask) (old new : Awaited) (log log' : LogTold) (wire : ℤ) (id
     Rest = joined (drop (made + 1) t.pieces)
 
     parts : joined t.pieces ≡ Taken ++ Rest
-    parts = rest_of t old new log log' wire ids drawn u u' between aim bytes made there within doing cut flies
+    parts = rest_of supply t old new log log' wire ids drawn u u' between aim bytes made there within doing cut flies
 
     starts_well : u.doing ≡ idle → (s : Stepped) → Drives old new log log' wire ids drawn (write (length bytes)) (with_bytes bytes u) u' (first_phase u) s → Ran s
     starts_well is s d =
         let v = at_work (with_bytes bytes u) in
-        let taken_so = takes t old new log log' wire ids drawn u u' between aim bytes made there within doing cut flies is in
-        steps_fail t Taken Rest parts (write (length bytes)) tt d.steps old new log log' wire ids drawn twelve v d.left (first_phase u) s aim (bounds_doing (with_bytes bytes u) idle (bounds_bytes bytes u between.sound.bounds)) (begun_sound v u.checked refl)
-        (begun_writes (length bytes) u.checked) (first_cut v Taken u.checked (cut_doing (with_bytes bytes u) idle Taken 0 taken_so)) (first_flies t u.checked) calls told places (length calls) all_since (first_stands t old Before u.checked) (first_under old Before u.aim u.checked) d.does
+        let taken_so = takes supply t old new log log' wire ids drawn u u' between aim bytes made there within doing cut flies is in
+        steps_fail supply t Taken Rest parts (write (length bytes)) tt d.steps old new log log' wire ids drawn twelve v d.left (first_phase u) s aim (bounds_doing (with_bytes bytes u) idle (bounds_bytes bytes u between.sound.bounds)) (begun_sound v u.checked refl)
+        (begun_writes (length bytes) u.checked) (first_cut v Taken u.checked (cut_doing (with_bytes bytes u) idle Taken 0 taken_so)) (first_flies supply t u.checked) (first_supplied supply t ids u.sent u.checked (subst (DoingSupplied supply t ids u.sent) is so)) calls told places (length calls) all_since (first_stands t old Before u.checked) (first_under old Before u.aim u.checked) d.does
 
     abbrev Written : WritePoll → Type 0
     Written r = Grew places (length calls) calls log' wire (WriteEnds t new u' r)
@@ -125,12 +125,12 @@ module _ (t : PutTask) (old new : Awaited) (log log' : LogTold) (wire : ℤ) (id
 
   -- ---- a close
 
-  module _ (made : ℕ) (all : length t.pieces ≤ made) (doing : IsPutDoing u.doing made (length t.pieces)) (cut : CutBy u (taken_in u.doing t.pieces made) u.doing) (flies : PutFlies t u.doing) where
-    rests_well : (moment : ℤ) → u.doing ≡ idle → (s : Stepped) → Drives old new log log' wire ids drawn close u u' (rests moment) s → Ran s
-    rests_well moment is s d =
+  module _ (made : ℕ) (all : length t.pieces ≤ made) (doing : IsPutDoing u.doing made (length t.pieces)) (cut : CutBy u (taken_in u.doing t.pieces made) u.doing) (flies : PutFlies supply t u.doing) where
+    rests_well : (moment : ℤ) → IsMoment supply.moment moment → u.doing ≡ idle → (s : Stepped) → Drives old new log log' wire ids drawn close u u' (rests moment) s → Ran s
+    rests_well moment its is s d =
         let c : IsCutAt u (joined (take made t.pieces)) 0 = subst (λ (x : Doing). CutBy u (taken_in x t.pieces made) x) is cut in
         let whole : IsCutAt u (joined t.pieces) 0 = subst (λ (ps : List (List ℕ)). IsCutAt u (joined ps) 0) (take_all made t.pieces all) c in
-        steps_fail t (joined t.pieces) [] (sym (append-nil (joined t.pieces))) close refl d.steps old new log log' wire ids drawn twelve (at_work u) d.left (rests moment) s aim (bounds_doing u idle between.sound.bounds) (subst (SoundBy u) is between.sound.by) tt (cut_doing u idle (joined t.pieces) 0 whole) tt calls told places (length calls) all_since (tt, tt) tt d.does
+        steps_fail supply t (joined t.pieces) [] (sym (append-nil (joined t.pieces))) close refl d.steps old new log log' wire ids drawn twelve (at_work u) d.left (rests moment) s aim (bounds_doing u idle between.sound.bounds) (subst (SoundBy u) is between.sound.by) tt (cut_doing u idle (joined t.pieces) 0 whole) tt (subst (DoingSupplied supply t ids u.sent) is so, its) calls told places (length calls) all_since (tt, tt) tt d.does
 
     abbrev Closed : Step2 → Type 0
     Closed r = Grew places (length calls) calls log' wire (CloseEnds t new u' r)
@@ -141,9 +141,9 @@ module _ (t : PutTask) (old new : Awaited) (log log' : LogTold) (wire : ℤ) (id
     close_driven : (p : Phase) (s : Stepped) → Drives old new log log' wire ids drawn close u u' p s → Ran s → Closed (ended_by s)
     close_driven p s drives g = (g.0, g.1, g.2, close_by t new close drives.left u' (past_of places (length calls) g.0 wire) s drives.behind g.3)
 
-    pub close_ends : (moment : ℤ) (r : Step2) → Closes old new log log' wire ids drawn moment u u' r → Closed r
-    close_ends moment r (calls_of.refused refuses quiet is) = absurd (takes_close u.doing made (length t.pieces) doing refuses)
-    close_ends moment r (calls_of.starts rests_so s drives answer) = as_close r (ended_by s) answer (close_driven (rests moment) s drives (rests_well moment rests_so s drives))
-    close_ends moment r (calls_of.gives_up piece p is s drives answer) = absurd (no_write t old new log log' wire ids drawn u u' between aim made all doing cut flies piece p is)
-    close_ends moment r (calls_of.goes_on p is s drives answer) =
+    pub close_ends : (moment : ℤ) → IsMoment supply.moment moment → (r : Step2) → Closes old new log log' wire ids drawn moment u u' r → Closed r
+    close_ends moment its r (calls_of.refused refuses quiet is) = absurd (takes_close u.doing made (length t.pieces) doing refuses)
+    close_ends moment its r (calls_of.starts rests_so s drives answer) = as_close r (ended_by s) answer (close_driven (rests moment) s drives (rests_well moment its rests_so s drives))
+    close_ends moment its r (calls_of.gives_up piece p is s drives answer) = absurd (no_write supply t old new log log' wire ids drawn u u' between aim made all doing cut flies piece p is)
+    close_ends moment its r (calls_of.goes_on p is s drives answer) =
         as_close r (ended_by s) answer (close_driven p s drives (driven_well (joined t.pieces) [] (sym (append-nil (joined t.pieces))) close refl p is (subst (λ (d : Doing). CutBy u (taken_in d t.pieces made) d) is cut) flies s drives))

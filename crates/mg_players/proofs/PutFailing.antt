@@ -36,11 +36,12 @@ use Rattle.mg_gridfs.proofs.Filling.{first_one}
 use Rattle.mg_gridfs.proofs.Keeping.{step_kept}
 use Rattle.mg_players.specs.PutFailures as fails
 use Rattle.mg_players.specs.PutFailures.{AnswersPut, HasManyChunks, IsCommonKind, IsPutError, NotBuilt, PhaseReads, PutCheckFails, PutFails}
-use Rattle.mg_players.specs.Puts.{CutByPhase, IsCutAt, PutTask, joined, put_aim, put_bucket, total}
+use Rattle.mg_players.specs.Puts.{CutByPhase, IsCutAt, PhaseSupplied, PutTask, Supply, joined, put_aim, put_bucket, total}
 use Rattle.mg_players.specs.Sends.{PhaseFlies}
 use Rattle.mg_players.proofs.PutChecked.{TurnReads, check_reads}
 use Rattle.mg_players.proofs.PutErrors.{IsLimitKind, built_limit, inserted_kind, memory_or, ran_kind}
 use Rattle.mg_players.proofs.PutSending.{Fits, its_room, joined_total, step_sends}
+use Rattle.mg_players.proofs.PutSupplied.{step_supplied}
 use Rattle.mg_players.proofs.PutTelling.{first_on}
 
 -- what is known of a call that goes on, and why one has failed
@@ -264,13 +265,13 @@ module _ (t : PutTask) (taken rest : List ℕ) (whole : joined t.pieces ≡ take
 
 -- ---- all steps
 
-pub steps_fail : (t : PutTask) (taken rest : List ℕ) → joined t.pieces ≡ taken ++ rest → (call : uploads.Call) → Fits call rest → (n : ℕ) (old new : Awaited) (log log' : LogTold) (wire : ℤ) (ids : ℕ → List ℕ) (drawn : ℕ) → ((k : ℕ) → length (ids k) ≡ 12) → (u u' : ClientUpload) (p : Phase) (r : Stepped) → u.aim ≡ put_aim t → HasBounds u → IsSoundPhase u p → IsOfCall call p → CutByPhase u taken p
-    → PhaseFlies t p → (calls : List Call) → log ≡ Some calls → (places : List ℕ) (since : ℕ) → since ≤ length calls → PhaseStands t old (past_of places since calls wire) p → PhaseUnderway old (past_of places since calls wire) u.aim p → DoesSteps n old new log log' wire ids drawn u u' p r → Grew places since calls log' wire (λ past. FailsWell t new past r)
+pub steps_fail : (supply : Supply) (t : PutTask) (taken rest : List ℕ) → joined t.pieces ≡ taken ++ rest → (call : uploads.Call) → Fits call rest → (n : ℕ) (old new : Awaited) (log log' : LogTold) (wire : ℤ) (ids : ℕ → List ℕ) (drawn : ℕ) → ((k : ℕ) → length (ids k) ≡ 12) → (u u' : ClientUpload) (p : Phase) (r : Stepped) → u.aim ≡ put_aim t → HasBounds u → IsSoundPhase u p → IsOfCall call p → CutByPhase u taken p
+    → PhaseFlies supply t p → PhaseSupplied supply t ids u.sent p → (calls : List Call) → log ≡ Some calls → (places : List ℕ) (since : ℕ) → since ≤ length calls → PhaseStands t old (past_of places since calls wire) p → PhaseUnderway old (past_of places since calls wire) u.aim p → DoesSteps n old new log log' wire ids drawn u u' p r → Grew places since calls log' wire (λ past. FailsWell t new past r)
 unfolding DoesSteps
-steps_fail t taken rest whole call fits zero old new log log' wire ids drawn twelve u u' p r aim bounds sound own cut flies calls told places since room its under d = step_well t taken rest whole old new log log' wire u u' r aim bounds calls told places since room call ids twelve drawn p sound own cut its under d.0
-steps_fail t taken rest whole call fits (suc n) old new log log' wire ids drawn twelve u u' p r aim bounds sound own cut flies calls told places since room its under d =
+steps_fail supply t taken rest whole call fits zero old new log log' wire ids drawn twelve u u' p r aim bounds sound own cut flies so calls told places since room its under d = step_well t taken rest whole old new log log' wire u u' r aim bounds calls told places since room call ids twelve drawn p sound own cut its under d.0
+steps_fail supply t taken rest whole call fits (suc n) old new log log' wire ids drawn twelve u u' p r aim bounds sound own cut flies so calls told places since room its under d =
     let kept = step_kept old d.0 log d.1 wire u d.4 (goes d.5) bounds ids d.2 p sound d.6 in
-    let s = step_sends t taken rest whole call fits old d.0 log d.1 wire u d.4 (goes d.5) aim (its_room t u aim bounds) ids d.2 p sound own cut flies d.6 in
+    let s = step_sends supply t taken rest whole call fits old d.0 log d.1 wire u d.4 (goes d.5) aim (its_room t u aim bounds) ids d.2 p sound own cut flies so d.6 in
     let own_on = call_kept call old d.0 log d.1 wire ids d.2 u d.4 p (goes d.5) own d.6 in
     let w = step_well t taken rest whole old d.0 log d.1 wire u d.4 (goes d.5) aim bounds calls told places since room call ids twelve d.2 p sound own cut its under d.6 in
     let g = step_caused checks_caused landings_caused old d.0 log d.1 wire u d.4 p (goes d.5) bounds sound calls told places since room call own ids d.2 d.6 under in
@@ -279,5 +280,6 @@ steps_fail t taken rest whole call fits (suc n) old new log log' wire ids drawn 
     let longer = keeps_longer calls g.0 g.2 in
     let room_on : since ≤ length g.0 = omega (arith, room, longer) in
     let under_on = subst (λ (a : Aim). PhaseUnderway d.0 (past_of places since g.0 wire) a d.5) (sym kept.same_aim) g.3 in
-    let more = steps_fail t taken rest whole call fits n d.0 new d.1 log' wire (ids_behind d.2 ids) d.3 (λ k. twelve (d.2 + k)) d.4 u' d.5 r (kept.same_aim ∙ aim) kept.bounds kept.stepped_so own_on s.1.0 s.1.1 g.0 g.1 places since room_on its_on under_on d.8 in
+    let next = step_supplied supply t call ids d.2 u d.4 (goes d.5) old d.0 log d.1 wire p own so d.6 in
+    let more = steps_fail supply t taken rest whole call fits n d.0 new d.1 log' wire (ids_behind d.2 ids) d.3 (λ k. twelve (d.2 + k)) d.4 u' d.5 r (kept.same_aim ∙ aim) kept.bounds kept.stepped_so own_on s.1.0 s.1.1 next g.0 g.1 places since room_on its_on under_on d.8 in
     (more.0, more.1, keeps_on calls g.0 more.0 g.2 more.2, more.3)

@@ -8,7 +8,7 @@ use Rattle.mg_link.proofs.Onward.{tickets_same}
 use Rattle.mg_gridfs.specs.Uploads as uploads
 use Rattle.mg_gridfs.specs.UploadView.{upload_of}
 use Rattle.mg_players.specs.Headline.{PutPlays, put_task}
-use Rattle.mg_players.specs.Plays.{AnySent, Goes, no_move}
+use Rattle.mg_players.specs.Plays.{Goes, SentAt, no_move}
 use Rattle.mg_players.specs.Progress.{HoldsIf, PutAt, PutGoes, PutOver, PutReady}
 use Rattle.mg_players.specs.Putting.{Opens, OpensFrom, PutTurns}
 use Rattle.mg_players.specs.Puts.{IsPutDoing, PutHasIds, PutHolds, PutTask, put_ticket}
@@ -28,10 +28,10 @@ pub at_stage : (p : PutPlayer) (s : PutStage) → s ≡ p.stage → record p { s
 at_stage p s is = ap (λ (x : PutStage). record p { stage = x }) is
 
 -- over a link whose wire version stays
-pub put_goes : (old new : Awaited) (log log' : LogTold) (wire wire' : ℤ) (p r : PutPlayer) (s : PutStage) → s ≡ p.stage → wire' ≡ wire → PutTurns old new log log' wire (record p { stage = s }) r
-    → Goes put_ticket (λ w x. PutHolds x) put_task PutPlays PutSays (λ x. put_number x.done x.stage) (λ x. PutHasIds x.stage) AnySent old new log log' wire' p r
-put_goes old new log log' wire wire' p r s is same turns =
-    let t = subst (λ (x : PutPlayer). PutTurns old new log log' wire' x r) (at_stage p s is) (subst (λ (w : ℤ). PutTurns old new log log' w (record p { stage = s }) r) (sym same) turns) in
+pub put_goes : (old new : Awaited) (log log' : LogTold) (wire wire' moment : ℤ) (p r : PutPlayer) (s : PutStage) → s ≡ p.stage → wire' ≡ wire → PutTurns old new log log' wire moment (record p { stage = s }) r
+    → Goes put_ticket (λ w x. PutHolds x) put_task PutPlays PutSays (λ x. put_number x.done x.stage) (λ x. PutHasIds x.stage) (SentAt moment) old new log log' wire' p r
+put_goes old new log log' wire wire' moment p r s is same turns =
+    let t = subst (λ (x : PutPlayer). PutTurns old new log log' wire' moment x r) (at_stage p s is) (subst (λ (w : ℤ). PutTurns old new log log' w moment (record p { stage = s }) r) (sym same) turns) in
     record {
       tickets = t.tickets;
       holds = t.holds;
@@ -48,22 +48,22 @@ put_comes before now p r s is goes = subst (λ (x : PutPlayer). PutGoes before n
 -- ---- its opening
 
 -- Behind its opening an upload is open that has taken nothing, or the put has failed.
-opens_at : (t : PutTask) (size : ℕ) (s : PutStage) (calls done count k : ℕ) → Opens t size s → count ≡ calls → done ≡ 0 → k ≡ 0 → PutAt calls s done count (k + 1) false
-opens_at t size puts.Undrawn calls done count k opens same none first = absurd opens
-opens_at t size (puts.Begins begun) calls done count k opens same none first = absurd opens
-opens_at t size (puts.Goes going) calls done count k opens same none first =
+opens_at : (t : PutTask) (begun : Beginning) (s : PutStage) (calls done count k : ℕ) → Opens t begun s → count ≡ calls → done ≡ 0 → k ≡ 0 → PutAt calls s done count (k + 1) false
+opens_at t begun puts.Undrawn calls done count k opens same none first = absurd opens
+opens_at t begun (puts.Begins other) calls done count k opens same none first = absurd opens
+opens_at t begun (puts.Goes going) calls done count k opens same none first =
     let rest : (upload_of going.upload).doing ≡ uploads.idle = ap (λ (u : uploads.ClientUpload). u.doing) opens.1 in (
       same,
       omega (arith, none, first),
       subst (λ (d : uploads.Doing). IsPutDoing d done count) (sym rest) (omega (arith, none)),
       subst (λ (d : uploads.Doing). HoldsIf false (uploads.ticket_by d)) (sym rest) refl,
     )
-opens_at t size (puts.Ended ended.Unfinished) calls done count k opens same none first = absurd opens
-opens_at t size (puts.Ended (ended.Gave n)) calls done count k opens same none first = absurd opens
-opens_at t size (puts.Ended (ended.Failed e)) calls done count k opens same none first = (omega arith, refl)
+opens_at t begun (puts.Ended ended.Unfinished) calls done count k opens same none first = absurd opens
+opens_at t begun (puts.Ended (ended.Gave n)) calls done count k opens same none first = absurd opens
+opens_at t begun (puts.Ended (ended.Failed e)) calls done count k opens same none first = (omega arith, refl)
 
 opens_from_at : (t : PutTask) (begun : Result Beginning Error) (s : PutStage) (calls done count k : ℕ) → OpensFrom t begun s → count ≡ calls → done ≡ 0 → k ≡ 0 → PutAt calls s done count (k + 1) false
-opens_from_at t (Ok begun) s calls done count k opens same none first = opens_at t begun.length s calls done count k opens same none first
+opens_from_at t (Ok begun) s calls done count k opens same none first = opens_at t begun s calls done count k opens same none first
 opens_from_at t (Err e) s calls done count k opens same none first = subst (λ (x : PutStage). PutAt calls x done count (k + 1) false) (sym opens) (omega arith, refl)
 
 pub opening_comes : (before : ℕ) (t : PutTask) (p : PutPlayer) (begun : Result Beginning Error) (s : PutStage) → puts.Begins begun ≡ p.stage → OpensFrom t begun s → PutGoes before before p (record p { stage = s })
@@ -77,15 +77,15 @@ opening_comes before t p begun s is opens = (
 
 -- ---- a turn that changes nothing
 
-pub put_same : (awaited : Awaited) (log : LogTold) (wire : ℤ) (p r : PutPlayer) → r ≡ p → IsOut awaited (put_ticket p) → PutHolds p → Goes put_ticket (λ w x. PutHolds x) put_task PutPlays PutSays (λ x. put_number x.done x.stage) (λ x. PutHasIds x.stage) AnySent awaited awaited log log wire p r
-put_same awaited log wire p r is out holds =
-    subst (λ (x : PutPlayer). Goes put_ticket (λ w y. PutHolds y) put_task PutPlays PutSays (λ y. put_number y.done y.stage) (λ y. PutHasIds y.stage) AnySent awaited awaited log log wire p x) (sym is)
+pub put_same : (awaited : Awaited) (log : LogTold) (wire moment : ℤ) (p r : PutPlayer) → r ≡ p → IsOut awaited (put_ticket p) → PutHolds p → Goes put_ticket (λ w x. PutHolds x) put_task PutPlays PutSays (λ x. put_number x.done x.stage) (λ x. PutHasIds x.stage) (SentAt moment) awaited awaited log log wire p r
+put_same awaited log wire moment p r is out holds =
+    subst (λ (x : PutPlayer). Goes put_ticket (λ w y. PutHolds y) put_task PutPlays PutSays (λ y. put_number y.done y.stage) (λ y. PutHasIds y.stage) (SentAt moment) awaited awaited log log wire p x) (sym is)
     (record {
       tickets = tickets_same awaited (put_ticket p) out;
       holds = holds;
       next = no_move;
       turned = λ calls told o at plays. (calls, told, record { place = at; placed = refl; owner = o; plays = plays; passes = passes_same calls o (holds_put awaited calls o p.stage plays) });
-      told = quiet_turn put_task PutPlays PutSays (λ y. put_number y.done y.stage) AnySent awaited log wire p p (tells_same_job put_task PutSays (λ y. put_number y.done y.stage) AnySent p);
+      told = quiet_turn put_task PutPlays PutSays (λ y. put_number y.done y.stage) (SentAt moment) awaited log wire p p (tells_same_job put_task PutSays (λ y. put_number y.done y.stage) (SentAt moment) p);
       task = refl;
       has = λ has. has;
     })

@@ -20,14 +20,17 @@ use Rattle.mg_script.specs.declared.outcome.Ended.{Ended}
 use Rattle.mg_script.specs.declared.outcome.Ended.TheVariants as ended
 use Rattle.mg_bson.specs.Tree.{Fields}
 use Rattle.mg_players.specs.Causes.{AreInLog, commands_at, sent_at}
+use Rattle.mg_players.specs.Drawing.{supply_from}
 use Rattle.mg_players.specs.Headline.{PutPlays, put_task}
-use Rattle.mg_players.specs.Plays.{AnySent, Places, TellsBehind, TurnTells, all_places, no_move}
+use Rattle.mg_players.specs.Kept.{ids_left}
+use Rattle.mg_players.specs.Plays.{Places, SentAt, TellsBehind, TurnTells, all_places, no_move}
 use Rattle.mg_players.specs.Putting.{Opens, OpensFrom, PutTurns}
-use Rattle.mg_players.specs.Puts.{BegunFor, IsPutDoing, NamesFiles, PutTask, PutsKnowing, put_aim, total, writes}
+use Rattle.mg_players.specs.Puts.{BegunFor, ComeNext, IsPutDoing, NamesFiles, PutTask, PutsKnowing, Supply, put_aim, writes}
 use Rattle.mg_players.specs.Sends.{MaySend}
 use Rattle.mg_players.specs.PutSends.{PutEndsSent, SentChunks}
 use Rattle.mg_players.proofs.PutCommands.{sent_nothing}
 use Rattle.mg_players.proofs.PutOrder.{none_some}
+use Rattle.mg_players.proofs.PutSupplied.{next_as}
 use Rattle.mg_players.specs.Telling.{PutSaid, PutSays, PutTells, PutTellsOpen, SentNothing, put_number}
 use Rattle.mg_players.specs.declared.put.Beginning.{Beginning}
 use Rattle.mg_players.specs.declared.put.PutPlayer.{PutPlayer}
@@ -47,11 +50,11 @@ said_none : (calls : List Call) (q : Places) (P : List Fields → Type 0) → Se
 said_none calls q P nothing h = record { within = subst (AreInLog (length calls)) (sym (nowhere q nothing)) tt; sends = subst (λ (l : List ℕ). P (commands_at calls l)) (sym (nowhere q nothing)) h }
 
 -- an upload that has taken nothing tells of no places
-module _ (t : PutTask) (awaited : Awaited) (calls : List Call) (wire : ℤ) (q : Places) (named : NamesFiles t) (sized : IsSize t.chunk) (nothing : SentNothing q) where
+module _ (supply : Supply) (t : PutTask) (ids : ℕ → List ℕ) (next : ComeNext supply t ids 0) (awaited : Awaited) (calls : List Call) (wire : ℤ) (q : Places) (named : NamesFiles t) (sized : IsSize t.chunk) (nothing : SentNothing q) where
   fresh_knows : KnowsUpload awaited (sent_at (all_places q) calls wire) t.at (fresh_upload (put_aim t)) []
   fresh_knows = subst (λ (l : List ℕ). KnowsUpload awaited (past_of l (length calls) calls wire) t.at (fresh_upload (put_aim t)) []) (sym (nowhere q nothing)) (upload_begins awaited calls wire t.at (put_aim t) (record { files = refl; chunks = refl }) named.0 named.1)
 
-  fresh_tells : PutTellsOpen awaited calls wire q t 0 (fresh_upload (put_aim t))
+  fresh_tells : PutTellsOpen awaited calls wire q supply t ids 0 (fresh_upload (put_aim t))
   fresh_tells = record {
     aim_is = refl;
     sized = sized;
@@ -60,29 +63,30 @@ module _ (t : PutTask) (awaited : Awaited) (calls : List Call) (wire : ℤ) (q :
     cut = record { front = []; parts = refl; even = omega arith };
     underway = tt;
     flies = tt;
+    supplied = next;
     its = tt;
     reads = tt;
     knows = fresh_knows;
-    said = said_none calls q (λ commands. SentChunks t commands false 0) nothing (sent_nothing t);
+    said = said_none calls q (λ commands. SentChunks supply t commands false 0) nothing (sent_nothing supply t);
   }
 
-  pub opened_tells : (u : ClientUpload) (done : ℕ) → done ≡ 0 → u ≡ fresh_upload (put_aim t) → PutTellsOpen awaited calls wire q t done u
-  opened_tells u done none fresh = subst (λ (x : ClientUpload). PutTellsOpen awaited calls wire q t done x) (sym fresh) (subst (λ (n : ℕ). PutTellsOpen awaited calls wire q t n (fresh_upload (put_aim t))) (sym none) fresh_tells)
+  pub opened_tells : (u : ClientUpload) (done : ℕ) → done ≡ 0 → u ≡ fresh_upload (put_aim t) → PutTellsOpen awaited calls wire q supply t ids done u
+  opened_tells u done none fresh = subst (λ (x : ClientUpload). PutTellsOpen awaited calls wire q supply t ids done x) (sym fresh) (subst (λ (n : ℕ). PutTellsOpen awaited calls wire q supply t ids n (fresh_upload (put_aim t))) (sym none) fresh_tells)
 
 -- ---- a turn
 
 -- its upload is open, or the put has failed
-opens_tells : (t : PutTask) (awaited : Awaited) (calls : List Call) (wire : ℤ) (q : Places) (size done : ℕ) (s : PutStage) → done ≡ 0 → size ≡ total t.pieces → SentNothing q → Opens t size s → PutTells awaited calls wire q t done s
-opens_tells t awaited calls wire q size done puts.Undrawn none sum nothing opens = absurd opens
-opens_tells t awaited calls wire q size done (puts.Begins begun) none sum nothing opens = absurd opens
-opens_tells t awaited calls wire q size done (puts.Goes going) none sum nothing opens =
+opens_tells : (supply : Supply) (t : PutTask) (awaited : Awaited) (calls : List Call) (wire : ℤ) (q : Places) (begun : Beginning) (done : ℕ) (s : PutStage) → done ≡ 0 → BegunFor supply t (Ok begun) → SentNothing q → Opens t begun s → PutTells awaited calls wire q supply t done s
+opens_tells supply t awaited calls wire q begun done puts.Undrawn none is nothing opens = absurd opens
+opens_tells supply t awaited calls wire q begun done (puts.Begins other) none is nothing opens = absurd opens
+opens_tells supply t awaited calls wire q begun done (puts.Goes going) none is nothing opens =
     let sized : IsSize t.chunk = subst (λ (u : ClientUpload). IsSize u.aim.size) opens.1 opens.2.between.sound.bounds.size in
-    (opened_tells t awaited calls wire q opens.0 sized nothing (upload_of going.upload) done none opens.1, opens.3 ∙ sum)
-opens_tells t awaited calls wire q size done (puts.Ended ended.Unfinished) none sum nothing opens = absurd opens
-opens_tells t awaited calls wire q size done (puts.Ended (ended.Gave n)) none sum nothing opens = absurd opens
-opens_tells t awaited calls wire q size done (puts.Ended (ended.Failed e)) none sum nothing opens = (nothing.0, ap length nothing.1 ∙ sym none, inl (opens, nowhere q nothing), tt, said_none calls q (λ commands. PutEndsSent t commands (ended.Failed e)) nothing (false, none_some t [] refl))
+    (opened_tells supply t (ids_left going.ids) (next_as supply t (ids_left begun.ids) (ids_left going.ids) opens.4 0 is.1) awaited calls wire q opens.0 sized nothing (upload_of going.upload) done none opens.1, opens.3 ∙ is.0)
+opens_tells supply t awaited calls wire q begun done (puts.Ended ended.Unfinished) none is nothing opens = absurd opens
+opens_tells supply t awaited calls wire q begun done (puts.Ended (ended.Gave n)) none is nothing opens = absurd opens
+opens_tells supply t awaited calls wire q begun done (puts.Ended (ended.Failed e)) none is nothing opens = (nothing.0, ap length nothing.1 ∙ sym none, inl (opens, nowhere q nothing), tt, said_none calls q (λ commands. PutEndsSent supply t commands (ended.Failed e)) nothing (false, none_some supply t [] refl))
 
-module _ (awaited : Awaited) (log : LogTold) (wire : ℤ) (p : PutPlayer) (begun : Result Beginning Error) (none : p.done ≡ 0) where
+module _ (awaited : Awaited) (log : LogTold) (wire moment : ℤ) (p : PutPlayer) (begun : Result Beginning Error) (none : p.done ≡ 0) where
   abbrev T : PutTask
   T = writes p.what
 
@@ -93,20 +97,20 @@ module _ (awaited : Awaited) (log : LogTold) (wire : ℤ) (p : PutPlayer) (begun
   quietly : (calls : List Call) (o : Owner) → o ≡ nobody → Passes calls calls o nobody
   quietly calls o is = subst (λ (own : Owner). Passes calls calls own nobody) (sym is) (passes_same calls nobody (holds_nobody calls))
 
-  module _ (s : PutStage) (tells : (calls : List Call) (q : Places) → SentNothing q → BegunFor T begun → PutTells awaited calls wire q T p.done s) where
-    told_so : TurnTells put_task PutPlays PutSays (λ x. put_number x.done x.stage) AnySent awaited awaited log log wire Before (record p { stage = s }) no_move
-    told_so calls calls' told told' ids n may q at at' placed o plays says =
-        subst (λ (l : List Call). TellsBehind PutSays (λ x. put_number x.done x.stage) awaited calls l wire (put_task Before) q 0 (record p { stage = s }) at') (same_some calls calls' (sym told ∙ told'))
+  module _ (s : PutStage) (tells : (supply : Supply) (calls : List Call) (q : Places) → SentNothing q → BegunFor supply T begun → PutTells awaited calls wire q supply T p.done s) where
+    told_so : TurnTells put_task PutPlays PutSays (λ x. put_number x.done x.stage) (SentAt moment) awaited awaited log log wire Before (record p { stage = s }) no_move
+    told_so calls calls' told told' supply n may q at at' placed o plays says =
+        subst (λ (l : List Call). TellsBehind PutSays (λ x. put_number x.done x.stage) awaited calls l wire (supply_from supply n) (put_task Before) q 0 (record p { stage = s }) at') (same_some calls calls' (sym told ∙ told'))
         (record {
           longer = omega arith;
           places = q;
-          tells = tells calls q says.0 says.2;
+          tells = tells (supply_from supply n) calls q says.0 says.2;
           extends = extends_rest q 0 (put_number p.done s) (length calls) says.0.2;
-          adds = adds_none (MaySend (put_task Before)) calls;
+          adds = adds_none (MaySend (supply_from supply n) (put_task Before)) calls;
         })
 
   -- it has failed
-  failed_so : (end : Ended ℕ) → ((calls : List Call) (q : Places) → SentNothing q → BegunFor T begun → PutTells awaited calls wire q T p.done (puts.Ended end)) → PutTurns awaited awaited log log wire Before (record p { stage = puts.Ended end })
+  failed_so : (end : Ended ℕ) → ((supply : Supply) (calls : List Call) (q : Places) → SentNothing q → BegunFor supply T begun → PutTells awaited calls wire q supply T p.done (puts.Ended end)) → PutTurns awaited awaited log log wire moment Before (record p { stage = puts.Ended end })
   failed_so end tells = record {
     same = refl;
     tickets = tickets_same awaited None (λ n held. absurd cc);
@@ -117,10 +121,10 @@ module _ (awaited : Awaited) (log : LogTold) (wire : ℤ) (p : PutPlayer) (begun
   }
 
   -- its upload is open
-  opened_so : (size : ℕ) (s : PutStage) → (BegunFor T begun → size ≡ total T.pieces) → Opens T size s → PutTurns awaited awaited log log wire Before (record p { stage = s })
-  opened_so size puts.Undrawn counts opens = absurd opens
-  opened_so size (puts.Begins other) counts opens = absurd opens
-  opened_so size (puts.Goes going) counts opens = record {
+  opened_so : (mine : Beginning) (s : PutStage) → ((supply : Supply) → BegunFor supply T begun → BegunFor supply T (Ok mine)) → Opens T mine s → PutTurns awaited awaited log log wire moment Before (record p { stage = s })
+  opened_so mine puts.Undrawn counts opens = absurd opens
+  opened_so mine (puts.Begins other) counts opens = absurd opens
+  opened_so mine (puts.Goes going) counts opens = record {
     same = refl;
     tickets = subst (λ (x : ClientUpload). Tickets awaited awaited None (upload_ticket x)) (sym opens.1) (tickets_same awaited None (λ n held. absurd cc));
     holds = record { sound = opens.2; doing = subst (λ (x : ClientUpload). IsPutDoing x.doing p.done (length T.pieces)) (sym opens.1) (omega (arith, none)) };
@@ -136,13 +140,13 @@ module _ (awaited : Awaited) (log : LogTold) (wire : ℤ) (p : PutPlayer) (begun
         passes = quietly calls o plays;
       },
     );
-    told = told_so (puts.Goes going) (λ calls q nothing is. opens_tells T awaited calls wire q size p.done (puts.Goes going) none (counts is) nothing opens);
+    told = told_so (puts.Goes going) (λ supply calls q nothing is. opens_tells supply T awaited calls wire q mine p.done (puts.Goes going) none (counts supply is) nothing opens);
   }
-  opened_so size (puts.Ended end) counts opens = failed_so end (λ calls q nothing is. opens_tells T awaited calls wire q size p.done (puts.Ended end) none (counts is) nothing opens)
+  opened_so mine (puts.Ended end) counts opens = failed_so end (λ supply calls q nothing is. opens_tells supply T awaited calls wire q mine p.done (puts.Ended end) none (counts supply is) nothing opens)
 
 -- A turn that opens its upload.
-pub opening_turns : (awaited : Awaited) (log : LogTold) (wire : ℤ) (p : PutPlayer) (begun : Result Beginning Error) (s : PutStage) → p.done ≡ 0 → OpensFrom (writes p.what) begun s → PutTurns awaited awaited log log wire (record p { stage = puts.Begins begun }) (record p { stage = s })
-opening_turns awaited log wire p (Ok begun) s none opens = opened_so awaited log wire p (Ok begun) none begun.length s (λ is. is) opens
-opening_turns awaited log wire p (Err e) s none opens =
-    subst (λ (x : PutStage). PutTurns awaited awaited log log wire (record p { stage = puts.Begins (Err e) }) (record p { stage = x })) (sym opens)
-    (failed_so awaited log wire p (Err e) none (ended.Failed e) (λ calls q nothing is. (nothing.0, ap length nothing.1 ∙ sym none, inl (inl is, nowhere q nothing), tt, said_none calls q (λ commands. PutEndsSent (writes p.what) commands (ended.Failed e)) nothing (false, none_some (writes p.what) [] refl))))
+pub opening_turns : (awaited : Awaited) (log : LogTold) (wire moment : ℤ) (p : PutPlayer) (begun : Result Beginning Error) (s : PutStage) → p.done ≡ 0 → OpensFrom (writes p.what) begun s → PutTurns awaited awaited log log wire moment (record p { stage = puts.Begins begun }) (record p { stage = s })
+opening_turns awaited log wire moment p (Ok begun) s none opens = opened_so awaited log wire moment p (Ok begun) none begun s (λ supply is. is) opens
+opening_turns awaited log wire moment p (Err e) s none opens =
+    subst (λ (x : PutStage). PutTurns awaited awaited log log wire moment (record p { stage = puts.Begins (Err e) }) (record p { stage = x })) (sym opens)
+    (failed_so awaited log wire moment p (Err e) none (ended.Failed e) (λ supply calls q nothing is. (nothing.0, ap length nothing.1 ∙ sym none, inl (inl is, nowhere q nothing), tt, said_none calls q (λ commands. PutEndsSent supply (writes p.what) commands (ended.Failed e)) nothing (false, none_some supply (writes p.what) [] refl))))

@@ -25,72 +25,72 @@ use Rattle.mg_gridfs.proofs.Polled.{begun_sound, begun_writes, bounds_doing}
 use Rattle.mg_players.specs.Causes.{AreInLog, commands_at}
 use Rattle.mg_players.specs.Plays.{Places, all_places}
 use Rattle.mg_players.specs.PutSends.{DoingSent, PhaseSent, SentAll, SentChunks, SentSome}
-use Rattle.mg_players.specs.Puts.{CutBy, IsCutAt, IsPutDoing, PutTask, joined, put_aim, taken_in}
+use Rattle.mg_players.specs.Puts.{CutBy, DoingSupplied, IsCutAt, IsMoment, IsPutDoing, PutTask, Supply, joined, put_aim, taken_in}
 use Rattle.mg_players.specs.Sends.{PutFlies}
 use Rattle.mg_players.specs.Telling.{PutSaid}
 use Rattle.mg_players.proofs.Commands.{at_kept, at_sent, below_more, below_since}
 use Rattle.mg_players.proofs.PutOrder.{SteppedSent, chunks_any, steps_order}
-use Rattle.mg_players.proofs.PutPolled.{cut_doing, first_cut, first_flies, no_write, phase_doing, rest_of, sound_on, takes, takes_close, takes_write}
+use Rattle.mg_players.proofs.PutPolled.{cut_doing, first_cut, first_flies, first_supplied, no_write, phase_doing, rest_of, sound_on, takes, takes_close, takes_write}
 use Rattle.mg_players.proofs.PutSending.{Fits}
 use Rattle.mg_link.proofs.Calls.{keeps_longer}
 use Rattle.mg_players.specs.Causes.{sent_since}
 
 -- what stands behind a poll of a write that left the upload so
-abbrev pub WriteSaid : PutTask → List Fields → ClientUpload → WritePoll → Type 0
-WriteSaid t commands u' wrote.Pending = DoingSent t commands u'.checked u'.sent u'.doing
-WriteSaid t commands u' (wrote.Wrote n) = DoingSent t commands u'.checked u'.sent u'.doing
-WriteSaid t commands u' (wrote.Failed e) = (removed : Bool) × SentSome t commands removed
+abbrev pub WriteSaid : Supply → PutTask → List Fields → ClientUpload → WritePoll → Type 0
+WriteSaid supply t commands u' wrote.Pending = DoingSent supply t commands u'.checked u'.sent u'.doing
+WriteSaid supply t commands u' (wrote.Wrote n) = DoingSent supply t commands u'.checked u'.sent u'.doing
+WriteSaid supply t commands u' (wrote.Failed e) = (removed : Bool) × SentSome supply t commands removed
 
 -- behind one of a close
-abbrev pub CloseSaid : PutTask → List Fields → ClientUpload → Step2 → Type 0
-CloseSaid t commands u' end.Pending = DoingSent t commands u'.checked u'.sent u'.doing
-CloseSaid t commands u' end.Done = (moment : ℤ) × SentAll t commands (Some moment)
-CloseSaid t commands u' (end.Failed e) = (removed : Bool) × SentSome t commands removed
+abbrev pub CloseSaid : Supply → PutTask → List Fields → ClientUpload → Step2 → Type 0
+CloseSaid supply t commands u' end.Pending = DoingSent supply t commands u'.checked u'.sent u'.doing
+CloseSaid supply t commands u' end.Done = (moment : ℤ) × SentAll supply t commands (Some moment)
+CloseSaid supply t commands u' (end.Failed e) = (removed : Bool) × SentSome supply t commands removed
 
-abbrev DoingOf : PutTask → List Fields → ClientUpload → Type 0
-DoingOf t commands u = DoingSent t commands u.checked u.sent u.doing
+abbrev DoingOf : Supply → PutTask → List Fields → ClientUpload → Type 0
+DoingOf supply t commands u = DoingSent supply t commands u.checked u.sent u.doing
 
-write_said : (t : PutTask) (commands : List Fields) (piece : ℕ) (left u' : ClientUpload) (s : Stepped) → u' ≡ record left { doing = doing_behind (write piece) s } → SteppedSent t commands left.checked left.sent (write piece) s → WriteSaid t commands u' (wrote_by piece s)
-write_said t commands piece left u' (steps.goes p) is h = subst (DoingOf t commands) (sym is) h
-write_said t commands piece left u' (steps.waits p) is h = subst (DoingOf t commands) (sym is) h
-write_said t commands piece left u' steps.done is h = subst (DoingOf t commands) (sym is) h
-write_said t commands piece left u' (steps.failed e) is h = h
+write_said : (supply : Supply) (t : PutTask) (commands : List Fields) (piece : ℕ) (left u' : ClientUpload) (s : Stepped) → u' ≡ record left { doing = doing_behind (write piece) s } → SteppedSent supply t commands left.checked left.sent (write piece) s → WriteSaid supply t commands u' (wrote_by piece s)
+write_said supply t commands piece left u' (steps.goes p) is h = subst (DoingOf supply t commands) (sym is) h
+write_said supply t commands piece left u' (steps.waits p) is h = subst (DoingOf supply t commands) (sym is) h
+write_said supply t commands piece left u' steps.done is h = subst (DoingOf supply t commands) (sym is) h
+write_said supply t commands piece left u' (steps.failed e) is h = h
 
-close_said : (t : PutTask) (commands : List Fields) (left u' : ClientUpload) (s : Stepped) → u' ≡ record left { doing = doing_behind close s } → SteppedSent t commands left.checked left.sent close s → CloseSaid t commands u' (ended_by s)
-close_said t commands left u' (steps.goes p) is h = subst (DoingOf t commands) (sym is) h
-close_said t commands left u' (steps.waits p) is h = subst (DoingOf t commands) (sym is) h
-close_said t commands left u' steps.done is h = h
-close_said t commands left u' (steps.failed e) is h = h
+close_said : (supply : Supply) (t : PutTask) (commands : List Fields) (left u' : ClientUpload) (s : Stepped) → u' ≡ record left { doing = doing_behind close s } → SteppedSent supply t commands left.checked left.sent close s → CloseSaid supply t commands u' (ended_by s)
+close_said supply t commands left u' (steps.goes p) is h = subst (DoingOf supply t commands) (sym is) h
+close_said supply t commands left u' (steps.waits p) is h = subst (DoingOf supply t commands) (sym is) h
+close_said supply t commands left u' steps.done is h = h
+close_said supply t commands left u' (steps.failed e) is h = h
 
 -- one that has not checked sent nothing
-first_said : (t : PutTask) (commands : List Fields) (checked : Bool) (sent : ℕ) → SentChunks t commands checked sent → PhaseSent t commands checked sent (if checked then fills else begins)
-first_said t commands true sent s = s
-first_said t commands false sent s = s.nothing refl
+first_said : (supply : Supply) (t : PutTask) (commands : List Fields) (checked : Bool) (sent : ℕ) → SentChunks supply t commands checked sent → PhaseSent supply t commands checked sent (if checked then fills else begins)
+first_said supply t commands true sent s = s
+first_said supply t commands false sent s = s.nothing refl
 
-module _ (t : PutTask) (old new : Awaited) (log log' : LogTold) (wire : ℤ) (ids : ℕ → List ℕ) (drawn : ℕ) (u u' : ClientUpload) (between : IsBetween u) (aim : u.aim ≡ put_aim t) (commands : List Fields) (so : DoingSent t commands u.checked u.sent u.doing) where
+module _ (supply : Supply) (t : PutTask) (old new : Awaited) (log log' : LogTold) (wire : ℤ) (ids : ℕ → List ℕ) (drawn : ℕ) (u u' : ClientUpload) (between : IsBetween u) (aim : u.aim ≡ put_aim t) (commands : List Fields) (so : DoingSent supply t commands u.checked u.sent u.doing) (supplied : DoingSupplied supply t ids u.sent u.doing) where
   abbrev pub Behind : (List Fields → Type 0) → Type 0
   Behind P = (more : List Fields) × AddsJust log log' more × P (commands ++ more)
 
   nothing_more : (P : List Fields → Type 0) → SendsNothing old new log log' → P commands → Behind P
   nothing_more P quiet h = ([], just_none log log' quiet.log_same, subst P (sym (append-nil commands)) h)
 
-  so_at : (call : uploads.Call) (p : Phase) → u.doing ≡ busy call p → PhaseSent t commands u.checked u.sent p
-  so_at call p is = subst (DoingSent t commands u.checked u.sent) is so
+  so_at : (call : uploads.Call) (p : Phase) → u.doing ≡ busy call p → PhaseSent supply t commands u.checked u.sent p
+  so_at call p is = subst (DoingSent supply t commands u.checked u.sent) is so
 
-  so_idle : u.doing ≡ idle → SentChunks t commands u.checked u.sent
-  so_idle is = subst (DoingSent t commands u.checked u.sent) is so
+  so_idle : u.doing ≡ idle → SentChunks supply t commands u.checked u.sent
+  so_idle is = subst (DoingSent supply t commands u.checked u.sent) is so
 
   abbrev Driven : uploads.Call → Stepped → ClientUpload → Type 0
-  Driven call s left = Behind (λ l. SteppedSent t l left.checked left.sent call s)
+  Driven call s left = Behind (λ l. SteppedSent supply t l left.checked left.sent call s)
 
-  driven_so : (taken rest : List ℕ) → joined t.pieces ≡ taken ++ rest → (call : uploads.Call) → Fits call rest → (p : Phase) → u.doing ≡ busy call p → CutBy u taken (busy call p) → PutFlies t u.doing → (s : Stepped) → (d : Drives old new log log' wire ids drawn call u u' p s) → Driven call s d.left
+  driven_so : (taken rest : List ℕ) → joined t.pieces ≡ taken ++ rest → (call : uploads.Call) → Fits call rest → (p : Phase) → u.doing ≡ busy call p → CutBy u taken (busy call p) → PutFlies supply t u.doing → (s : Stepped) → (d : Drives old new log log' wire ids drawn call u u' p s) → Driven call s d.left
   driven_so taken rest whole call fits p is cut flies s d =
-      let sound = sound_on t old new log log' wire ids drawn u u' between aim call p is in
-      steps_order t taken rest whole call fits d.steps old new log log' wire ids drawn (at_work u) d.left p s commands aim (bounds_doing u idle between.sound.bounds) sound.0 sound.1 (phase_doing u idle taken p cut) (subst (PutFlies t) is flies) (so_at call p is) d.does
+      let sound = sound_on supply t old new log log' wire ids drawn u u' between aim call p is in
+      steps_order supply t taken rest whole call fits d.steps old new log log' wire ids drawn (at_work u) d.left p s commands aim (bounds_doing u idle between.sound.bounds) sound.0 sound.1 (phase_doing u idle taken p cut) (subst (PutFlies supply t) is flies) (so_at call p is) (subst (DoingSupplied supply t ids u.sent) is supplied) d.does
 
   -- ---- a write
 
-  module _ (bytes : List ℕ) (made : ℕ) (there : slice_get t.pieces made ≡ Some bytes) (within : made < length t.pieces) (doing : IsPutDoing u.doing made (length t.pieces)) (cut : CutBy u (taken_in u.doing t.pieces made) u.doing) (flies : PutFlies t u.doing) where
+  module _ (bytes : List ℕ) (made : ℕ) (there : slice_get t.pieces made ≡ Some bytes) (within : made < length t.pieces) (doing : IsPutDoing u.doing made (length t.pieces)) (cut : CutBy u (taken_in u.doing t.pieces made) u.doing) (flies : PutFlies supply t u.doing) where
     abbrev Taken : List ℕ
     Taken = joined (take (made + 1) t.pieces)
 
@@ -98,56 +98,56 @@ module _ (t : PutTask) (old new : Awaited) (log log' : LogTold) (wire : ℤ) (id
     Rest = joined (drop (made + 1) t.pieces)
 
     parts : joined t.pieces ≡ Taken ++ Rest
-    parts = rest_of t old new log log' wire ids drawn u u' between aim bytes made there within doing cut flies
+    parts = rest_of supply t old new log log' wire ids drawn u u' between aim bytes made there within doing cut flies
 
     starts_so : u.doing ≡ idle → (s : Stepped) → (d : Drives old new log log' wire ids drawn (write (length bytes)) (with_bytes bytes u) u' (first_phase u) s) → Driven (write (length bytes)) s d.left
     starts_so is s d =
         let v = at_work (with_bytes bytes u) in
-        let taken_so = takes t old new log log' wire ids drawn u u' between aim bytes made there within doing cut flies is in
-        steps_order t Taken Rest parts (write (length bytes)) tt d.steps old new log log' wire ids drawn v d.left (first_phase u) s commands aim (bounds_doing (with_bytes bytes u) idle (bounds_bytes bytes u between.sound.bounds)) (begun_sound v u.checked refl)
-        (begun_writes (length bytes) u.checked) (first_cut v Taken u.checked (cut_doing (with_bytes bytes u) idle Taken 0 taken_so)) (first_flies t u.checked) (first_said t commands u.checked u.sent (so_idle is)) d.does
+        let taken_so = takes supply t old new log log' wire ids drawn u u' between aim bytes made there within doing cut flies is in
+        steps_order supply t Taken Rest parts (write (length bytes)) tt d.steps old new log log' wire ids drawn v d.left (first_phase u) s commands aim (bounds_doing (with_bytes bytes u) idle (bounds_bytes bytes u between.sound.bounds)) (begun_sound v u.checked refl)
+        (begun_writes (length bytes) u.checked) (first_cut v Taken u.checked (cut_doing (with_bytes bytes u) idle Taken 0 taken_so)) (first_flies supply t u.checked) (first_said supply t commands u.checked u.sent (so_idle is)) (first_supplied supply t ids u.sent u.checked (subst (DoingSupplied supply t ids u.sent) is supplied)) d.does
 
     abbrev Written : WritePoll → Type 0
-    Written r = Behind (λ l. WriteSaid t l u' r)
+    Written r = Behind (λ l. WriteSaid supply t l u' r)
 
     as_write : (r q : WritePoll) → r ≡ q → Written q → Written r
     as_write r q is h = subst Written (sym is) h
 
     write_driven : (piece : ℕ) (p : Phase) (v : ClientUpload) (s : Stepped) → (d : Drives old new log log' wire ids drawn (write piece) v u' p s) → Driven (write piece) s d.left → Written (wrote_by piece s)
-    write_driven piece p v s d h = (h.0, h.1, write_said t (commands ++ h.0) piece d.left u' s d.behind h.2)
+    write_driven piece p v s d h = (h.0, h.1, write_said supply t (commands ++ h.0) piece d.left u' s d.behind h.2)
 
     pub write_order : (r : WritePoll) → Writes old new log log' wire ids drawn u u' bytes r → Written r
     write_order r (calls_of.refused refuses quiet is) = absurd (takes_write u.doing made (length t.pieces) doing within refuses)
-    write_order r (calls_of.not_taken rests_so quiet is) = as_write r (wrote.Failed (plain kind.OutOfMemory)) is (nothing_more (λ l. WriteSaid t l u' (wrote.Failed (plain kind.OutOfMemory))) quiet.quiet (false, chunks_any t commands u.checked u.sent (so_idle rests_so)))
+    write_order r (calls_of.not_taken rests_so quiet is) = as_write r (wrote.Failed (plain kind.OutOfMemory)) is (nothing_more (λ l. WriteSaid supply t l u' (wrote.Failed (plain kind.OutOfMemory))) quiet.quiet (false, chunks_any supply t commands u.checked u.sent (so_idle rests_so)))
     write_order r (calls_of.kept rests_so short quiet none is answer) =
-        as_write r (wrote.Wrote (length bytes)) answer (nothing_more (λ l. WriteSaid t l u' (wrote.Wrote (length bytes))) quiet (subst (DoingOf t commands) (sym is) so))
+        as_write r (wrote.Wrote (length bytes)) answer (nothing_more (λ l. WriteSaid supply t l u' (wrote.Wrote (length bytes))) quiet (subst (DoingOf supply t commands) (sym is) so))
     write_order r (calls_of.starts rests_so full s drives answer) = as_write r (wrote_by (length bytes) s) answer (write_driven (length bytes) (first_phase u) (with_bytes bytes u) s drives (starts_so rests_so s drives))
     write_order r (calls_of.goes_on piece p is s drives answer) =
         as_write r (wrote_by piece s) answer (write_driven piece p u s drives (driven_so Taken Rest parts (write piece) tt p is (subst (λ (d : Doing). CutBy u (taken_in d t.pieces made) d) is cut) flies s drives))
 
   -- ---- a close
 
-  module _ (made : ℕ) (all : length t.pieces ≤ made) (doing : IsPutDoing u.doing made (length t.pieces)) (cut : CutBy u (taken_in u.doing t.pieces made) u.doing) (flies : PutFlies t u.doing) where
-    rests_so : (moment : ℤ) → u.doing ≡ idle → (s : Stepped) → (d : Drives old new log log' wire ids drawn close u u' (rests moment) s) → Driven close s d.left
-    rests_so moment is s d =
+  module _ (made : ℕ) (all : length t.pieces ≤ made) (doing : IsPutDoing u.doing made (length t.pieces)) (cut : CutBy u (taken_in u.doing t.pieces made) u.doing) (flies : PutFlies supply t u.doing) where
+    rests_so : (moment : ℤ) → IsMoment supply.moment moment → u.doing ≡ idle → (s : Stepped) → (d : Drives old new log log' wire ids drawn close u u' (rests moment) s) → Driven close s d.left
+    rests_so moment its is s d =
         let c : IsCutAt u (joined (take made t.pieces)) 0 = subst (λ (x : Doing). CutBy u (taken_in x t.pieces made) x) is cut in
         let whole : IsCutAt u (joined t.pieces) 0 = subst (λ (ps : List (List ℕ)). IsCutAt u (joined ps) 0) (take_all made t.pieces all) c in
-        steps_order t (joined t.pieces) [] (sym (append-nil (joined t.pieces))) close refl d.steps old new log log' wire ids drawn (at_work u) d.left (rests moment) s commands aim (bounds_doing u idle between.sound.bounds) (subst (SoundBy u) is between.sound.by) tt (cut_doing u idle (joined t.pieces) 0 whole) tt (so_idle is) d.does
+        steps_order supply t (joined t.pieces) [] (sym (append-nil (joined t.pieces))) close refl d.steps old new log log' wire ids drawn (at_work u) d.left (rests moment) s commands aim (bounds_doing u idle between.sound.bounds) (subst (SoundBy u) is between.sound.by) tt (cut_doing u idle (joined t.pieces) 0 whole) tt (so_idle is) (subst (DoingSupplied supply t ids u.sent) is supplied, its) d.does
 
     abbrev Closed : Step2 → Type 0
-    Closed r = Behind (λ l. CloseSaid t l u' r)
+    Closed r = Behind (λ l. CloseSaid supply t l u' r)
 
     as_close : (r q : Step2) → r ≡ q → Closed q → Closed r
     as_close r q is h = subst Closed (sym is) h
 
     close_driven : (p : Phase) (s : Stepped) → (d : Drives old new log log' wire ids drawn close u u' p s) → Driven close s d.left → Closed (ended_by s)
-    close_driven p s d h = (h.0, h.1, close_said t (commands ++ h.0) d.left u' s d.behind h.2)
+    close_driven p s d h = (h.0, h.1, close_said supply t (commands ++ h.0) d.left u' s d.behind h.2)
 
-    pub close_order : (moment : ℤ) (r : Step2) → Closes old new log log' wire ids drawn moment u u' r → Closed r
-    close_order moment r (calls_of.refused refuses quiet is) = absurd (takes_close u.doing made (length t.pieces) doing refuses)
-    close_order moment r (calls_of.starts idle_so s drives answer) = as_close r (ended_by s) answer (close_driven (rests moment) s drives (rests_so moment idle_so s drives))
-    close_order moment r (calls_of.gives_up piece p is s drives answer) = absurd (no_write t old new log log' wire ids drawn u u' between aim made all doing cut flies piece p is)
-    close_order moment r (calls_of.goes_on p is s drives answer) =
+    pub close_order : (moment : ℤ) → IsMoment supply.moment moment → (r : Step2) → Closes old new log log' wire ids drawn moment u u' r → Closed r
+    close_order moment its r (calls_of.refused refuses quiet is) = absurd (takes_close u.doing made (length t.pieces) doing refuses)
+    close_order moment its r (calls_of.starts idle_so s drives answer) = as_close r (ended_by s) answer (close_driven (rests moment) s drives (rests_so moment its idle_so s drives))
+    close_order moment its r (calls_of.gives_up piece p is s drives answer) = absurd (no_write supply t old new log log' wire ids drawn u u' between aim made all doing cut flies piece p is)
+    close_order moment its r (calls_of.goes_on p is s drives answer) =
         as_close r (ended_by s) answer (close_driven p s drives (driven_so (joined t.pieces) [] (sym (append-nil (joined t.pieces))) close refl p is (subst (λ (d : Doing). CutBy u (taken_in d t.pieces made) d) is cut) flies s drives))
 
 -- ---- a turn

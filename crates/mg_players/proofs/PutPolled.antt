@@ -3,9 +3,10 @@ use Rattle.std.proofs.Common.{◌≡◌, ◌<◌, ◌≤◌, ◌+◌, ℕ, zero,
 use Rattle.std.specs.Prelude.{slice_get, if◌then◌else◌}
 use Rattle.std.proofs.lemmas.List.{take_all}
 use Rattle.mg_link.specs.Link.{Awaited, LogTold}
+use Rattle.mg_ops.specs.Drawn.{AreLater}
 use Rattle.mg_gridfs.specs.Calls as calls
 use Rattle.mg_gridfs.specs.Calls.{Closes, Drives, TakesNoClose, TakesNoWrite, Writes, at_work, doing_behind, first_phase, with_bytes}
-use Rattle.mg_gridfs.specs.Steps.{Stepped}
+use Rattle.mg_gridfs.specs.Steps.{Stepped, ids_behind}
 use Rattle.mg_gridfs.specs.Storing.{taken_by}
 use Rattle.mg_gridfs.specs.Uploads as uploads
 use Rattle.mg_gridfs.specs.Uploads.{ClientUpload, Doing, IsBetween, IsOfCall, IsSoundPhase, Phase, RestsBy, SoundBy, abort, begins, busy, checks, close, closed, ends, fills, idle, inserts, lands, lasts, records, removes, rests, undoes, write}
@@ -15,10 +16,11 @@ use Rattle.mg_gridfs.specs.declared.polls.WritePoll.{WritePoll}
 use Rattle.mg_gridfs.specs.declared.polls.WritePoll.TheVariants as wrote
 use Rattle.mg_gridfs.proofs.Calling.{bounds_bytes}
 use Rattle.mg_gridfs.proofs.Polled.{begun_sound, begun_writes, bounds_doing, sound_doing}
-use Rattle.mg_players.specs.Puts.{CutBy, CutByPhase, IsCutAt, IsPutDoing, PutTask, joined, put_aim, taken_in}
+use Rattle.mg_players.specs.Puts.{ComeNext, CutBy, CutByPhase, DoingSupplied, IsCutAt, IsMoment, IsPutDoing, PhaseSupplied, PutTask, Supply, joined, put_aim, taken_in}
 use Rattle.mg_players.specs.Sends.{IsPutCommand, PhaseFlies, PutFlies}
 use Rattle.mg_players.proofs.PutChecking.{AddsTold, told_same}
 use Rattle.mg_players.proofs.PutSending.{Fits, SentSteps, Stands, steps_send}
+use Rattle.mg_players.proofs.PutSupplied.{doing_as, steps_supplied}
 
 -- ---- pieces
 
@@ -54,25 +56,25 @@ phase_doing u d taken (lands flight error) cut = cut
 phase_doing u d taken (undoes error) cut = cut
 phase_doing u d taken (removes s error) cut = cut
 
-stands_doing : (t : PutTask) (u : ClientUpload) (other : Doing) (taken : List ℕ) (d : Doing) → Stands t u taken d → Stands t (record u { doing = other }) taken d
-stands_doing t u other taken idle s = (cut_doing u other taken 0 s.0, s.1)
-stands_doing t u other taken (busy call p) s = (phase_doing u other taken p s.0, s.1)
-stands_doing t u other taken closed s = s
+stands_doing : (supply : Supply) (t : PutTask) (u : ClientUpload) (other : Doing) (taken : List ℕ) (d : Doing) → Stands supply t u taken d → Stands supply t (record u { doing = other }) taken d
+stands_doing supply t u other taken idle s = (cut_doing u other taken 0 s.0, s.1)
+stands_doing supply t u other taken (busy call p) s = (phase_doing u other taken p s.0, s.1)
+stands_doing supply t u other taken closed s = s
 
 -- ---- a poll
 
 -- what it sent, and how the upload stands behind it, unless it failed
-pub record PollSent (t : PutTask) (log log' : LogTold) (u' : ClientUpload) (Ahead : Type 0 → Type 0) (taken : List ℕ) : Type 0 where
-  pub adds : AddsTold (IsPutCommand t) log log'
+pub record PollSent (supply : Supply) (t : PutTask) (log log' : LogTold) (u' : ClientUpload) (Ahead : Type 0 → Type 0) (taken : List ℕ) : Type 0 where
+  pub adds : AddsTold (IsPutCommand supply t) log log'
   pub aim_is : u'.aim ≡ put_aim t
-  pub stands : Ahead (Stands t u' taken u'.doing)
+  pub stands : Ahead (Stands supply t u' taken u'.doing)
 
 abbrev pub Ahead : WritePoll → Type 0 → Type 0
 Ahead wrote.Pending P = P
 Ahead (wrote.Wrote n) P = P
 Ahead (wrote.Failed e) P = Unit {0}
 
-ahead : (r : WritePoll) (P : Type 0) → P → Ahead r P
+pub ahead : (r : WritePoll) (P : Type 0) → P → Ahead r P
 ahead wrote.Pending P p = p
 ahead (wrote.Wrote n) P p = p
 ahead (wrote.Failed e) P p = tt
@@ -82,16 +84,16 @@ AheadEnd end.Pending P = P
 AheadEnd end.Done P = P
 AheadEnd (end.Failed e) P = Unit {0}
 
-ahead_end : (r : Step2) (P : Type 0) → P → AheadEnd r P
+pub ahead_end : (r : Step2) (P : Type 0) → P → AheadEnd r P
 ahead_end end.Pending P p = p
 ahead_end end.Done P p = p
 ahead_end (end.Failed e) P p = tt
 
 -- the steps of a poll, as the upload that it leaves
-driven : (t : PutTask) (taken : List ℕ) (call : uploads.Call) (log log' : LogTold) (left u' : ClientUpload) (r : Stepped) → u' ≡ record left { doing = doing_behind call r } → SentSteps t taken call log log' left r → AddsTold (IsPutCommand t) log log' × (u'.aim ≡ put_aim t) × Stands t u' taken u'.doing
-driven t taken call log log' left u' r is s =
-    subst (λ (x : ClientUpload). AddsTold (IsPutCommand t) log log' × (x.aim ≡ put_aim t) × Stands t x taken x.doing) (sym is)
-    (s.adds, s.aim_is, stands_doing t left (doing_behind call r) taken (doing_behind call r) s.stands)
+driven : (supply : Supply) (t : PutTask) (taken : List ℕ) (call : uploads.Call) (log log' : LogTold) (left u' : ClientUpload) (r : Stepped) → u' ≡ record left { doing = doing_behind call r } → SentSteps supply t taken call log log' left r → AddsTold (IsPutCommand supply t) log log' × (u'.aim ≡ put_aim t) × Stands supply t u' taken u'.doing
+driven supply t taken call log log' left u' r is s =
+    subst (λ (x : ClientUpload). AddsTold (IsPutCommand supply t) log log' × (x.aim ≡ put_aim t) × Stands supply t x taken x.doing) (sym is)
+    (s.adds, s.aim_is, stands_doing supply t left (doing_behind call r) taken (doing_behind call r) s.stands)
 
 -- a put writes while pieces are left
 pub takes_write : (d : Doing) (made count : ℕ) → IsPutDoing d made count → made < count → TakesNoWrite d → ⊥
@@ -113,24 +115,28 @@ pub first_cut : (u : ClientUpload) (taken : List ℕ) (b : Bool) → IsCutAt u t
 first_cut u taken true cut = cut
 first_cut u taken false cut = cut
 
-pub first_flies : (t : PutTask) (b : Bool) → PhaseFlies t (if b then fills else begins)
-first_flies t true = tt
-first_flies t false = tt
+pub first_flies : (supply : Supply) (t : PutTask) (b : Bool) → PhaseFlies supply t (if b then fills else begins)
+first_flies supply t true = tt
+first_flies supply t false = tt
 
-module _ (t : PutTask) (old new : Awaited) (log log' : LogTold) (wire : ℤ) (ids : ℕ → List ℕ) (drawn : ℕ) (u u' : ClientUpload) (between : IsBetween u) (aim : u.aim ≡ put_aim t) where
+pub first_supplied : (supply : Supply) (t : PutTask) (ids : ℕ → List ℕ) (sent : ℕ) (b : Bool) → ComeNext supply t ids sent → PhaseSupplied supply t ids sent (if b then fills else begins)
+first_supplied supply t ids sent true next = next
+first_supplied supply t ids sent false next = next
+
+module _ (supply : Supply) (t : PutTask) (old new : Awaited) (log log' : LogTold) (wire : ℤ) (ids : ℕ → List ℕ) (drawn : ℕ) (u u' : ClientUpload) (between : IsBetween u) (aim : u.aim ≡ put_aim t) where
   -- a phase that goes on
   pub sound_on : (call : uploads.Call) (p : Phase) → u.doing ≡ busy call p → IsSoundPhase (at_work u) p × IsOfCall call p
   sound_on call p is = (sound_doing u idle p (subst (SoundBy u) is between.sound.by), (subst RestsBy is between.rests_so).1)
 
-  drives_on : (taken rest : List ℕ) → joined t.pieces ≡ taken ++ rest → (call : uploads.Call) → Fits call rest → (p : Phase) → u.doing ≡ busy call p → CutBy u taken (busy call p) → PutFlies t u.doing → (s : Stepped) → Drives old new log log' wire ids drawn call u u' p s → AddsTold (IsPutCommand t) log log' × (u'.aim ≡ put_aim t) × Stands t u' taken u'.doing
-  drives_on taken rest whole call fits p is cut flies s d =
+  drives_on : (taken rest : List ℕ) → joined t.pieces ≡ taken ++ rest → (call : uploads.Call) → Fits call rest → (p : Phase) → u.doing ≡ busy call p → CutBy u taken (busy call p) → PutFlies supply t u.doing → DoingSupplied supply t ids u.sent u.doing → (s : Stepped) → Drives old new log log' wire ids drawn call u u' p s → AddsTold (IsPutCommand supply t) log log' × (u'.aim ≡ put_aim t) × Stands supply t u' taken u'.doing
+  drives_on taken rest whole call fits p is cut flies so s d =
       let sound = sound_on call p is in
-      driven t taken call log log' d.left u' s d.behind
-      (steps_send t taken rest whole call fits d.steps old new log log' wire ids drawn (at_work u) d.left p s aim (bounds_doing u idle between.sound.bounds) sound.0 sound.1 (phase_doing u idle taken p cut) (subst (PutFlies t) is flies) d.does)
+      driven supply t taken call log log' d.left u' s d.behind
+      (steps_send supply t taken rest whole call fits d.steps old new log log' wire ids drawn (at_work u) d.left p s aim (bounds_doing u idle between.sound.bounds) sound.0 sound.1 (phase_doing u idle taken p cut) (subst (PutFlies supply t) is flies) (subst (DoingSupplied supply t ids u.sent) is so) d.does)
 
   -- ---- a write
 
-  module _ (bytes : List ℕ) (made : ℕ) (there : slice_get t.pieces made ≡ Some bytes) (within : made < length t.pieces) (doing : IsPutDoing u.doing made (length t.pieces)) (cut : CutBy u (taken_in u.doing t.pieces made) u.doing) (flies : PutFlies t u.doing) where
+  module _ (bytes : List ℕ) (made : ℕ) (there : slice_get t.pieces made ≡ Some bytes) (within : made < length t.pieces) (doing : IsPutDoing u.doing made (length t.pieces)) (cut : CutBy u (taken_in u.doing t.pieces made) u.doing) (flies : PutFlies supply t u.doing) where
     abbrev pub Now : List ℕ
     Now = joined (take (made + 1) t.pieces)
 
@@ -150,56 +156,93 @@ module _ (t : PutTask) (old new : Awaited) (log log' : LogTold) (wire : ℤ) (id
           even = c.even;
         }
 
-    starts_on : u.doing ≡ idle → (s : Stepped) → Drives old new log log' wire ids drawn (write (length bytes)) (with_bytes bytes u) u' (first_phase u) s → AddsTold (IsPutCommand t) log log' × (u'.aim ≡ put_aim t) × Stands t u' Now u'.doing
-    starts_on is s d =
+    starts_on : DoingSupplied supply t ids u.sent u.doing → u.doing ≡ idle → (s : Stepped) → Drives old new log log' wire ids drawn (write (length bytes)) (with_bytes bytes u) u' (first_phase u) s → AddsTold (IsPutCommand supply t) log log' × (u'.aim ≡ put_aim t) × Stands supply t u' Now u'.doing
+    starts_on so is s d =
         let v = at_work (with_bytes bytes u) in
-        driven t Now (write (length bytes)) log log' d.left u' s d.behind
-        (steps_send t Now (joined (drop (made + 1) t.pieces)) rest_of (write (length bytes)) tt d.steps old new log log' wire ids drawn v d.left (first_phase u) s aim (bounds_doing (with_bytes bytes u) idle (bounds_bytes bytes u between.sound.bounds)) (begun_sound v u.checked refl)
-        (begun_writes (length bytes) u.checked) (first_cut v Now u.checked (cut_doing (with_bytes bytes u) idle Now 0 (takes is))) (first_flies t u.checked) d.does)
+        driven supply t Now (write (length bytes)) log log' d.left u' s d.behind
+        (steps_send supply t Now (joined (drop (made + 1) t.pieces)) rest_of (write (length bytes)) tt d.steps old new log log' wire ids drawn v d.left (first_phase u) s aim (bounds_doing (with_bytes bytes u) idle (bounds_bytes bytes u between.sound.bounds)) (begun_sound v u.checked refl)
+        (begun_writes (length bytes) u.checked) (first_cut v Now u.checked (cut_doing (with_bytes bytes u) idle Now 0 (takes is))) (first_flies supply t u.checked) (first_supplied supply t ids u.sent u.checked (subst (DoingSupplied supply t ids u.sent) is so)) d.does)
 
-    as_ahead : (r : WritePoll) → AddsTold (IsPutCommand t) log log' × (u'.aim ≡ put_aim t) × Stands t u' Now u'.doing → PollSent t log log' u' (Ahead r) Now
-    as_ahead r s = record { adds = s.0; aim_is = s.1; stands = ahead r (Stands t u' Now u'.doing) s.2 }
+    as_ahead : (r : WritePoll) → AddsTold (IsPutCommand supply t) log log' × (u'.aim ≡ put_aim t) × Stands supply t u' Now u'.doing → PollSent supply t log log' u' (Ahead r) Now
+    as_ahead r s = record { adds = s.0; aim_is = s.1; stands = ahead r (Stands supply t u' Now u'.doing) s.2 }
 
-    pub write_sends : (r : WritePoll) → Writes old new log log' wire ids drawn u u' bytes r → PollSent t log log' u' (Ahead r) Now
-    write_sends r (calls.refused refuses quiet is) = absurd (takes_write u.doing made (length t.pieces) doing within refuses)
-    write_sends r (calls.not_taken rests_so quiet is) = record {
-      adds = told_same (IsPutCommand t) log log' quiet.quiet.log_same;
+    pub write_sends : DoingSupplied supply t ids u.sent u.doing → (r : WritePoll) → Writes old new log log' wire ids drawn u u' bytes r → PollSent supply t log log' u' (Ahead r) Now
+    write_sends so r (calls.refused refuses quiet is) = absurd (takes_write u.doing made (length t.pieces) doing within refuses)
+    write_sends so r (calls.not_taken rests_so quiet is) = record {
+      adds = told_same (IsPutCommand supply t) log log' quiet.quiet.log_same;
       aim_is = ap (λ (x : ClientUpload). x.aim) quiet.same ∙ aim;
-      stands = subst (λ (x : WritePoll). Ahead x (Stands t u' Now u'.doing)) (sym is) tt;
+      stands = subst (λ (x : WritePoll). Ahead x (Stands supply t u' Now u'.doing)) (sym is) tt;
     }
-    write_sends r (calls.kept rests_so short quiet none is answer) =
+    write_sends so r (calls.kept rests_so short quiet none is answer) =
         let c = takes rests_so in
         as_ahead r (
-          told_same (IsPutCommand t) log log' quiet.log_same,
+          told_same (IsPutCommand supply t) log log' quiet.log_same,
           ap (λ (x : ClientUpload). x.aim) is ∙ aim,
-          subst (λ (x : ClientUpload). Stands t x Now x.doing) (sym is) (subst (λ (d : Doing). Stands t (with_bytes bytes u) Now d) (sym rests_so) (c, tt)),
+          subst (λ (x : ClientUpload). Stands supply t x Now x.doing) (sym is) (subst (λ (d : Doing). Stands supply t (with_bytes bytes u) Now d) (sym rests_so) (c, tt)),
         )
-    write_sends r (calls.starts rests_so full s drives answer) = as_ahead r (starts_on rests_so s drives)
-    write_sends r (calls.goes_on piece p is s drives answer) =
-        as_ahead r (drives_on Now (joined (drop (made + 1) t.pieces)) rest_of (write piece) tt p is (subst (λ (d : Doing). CutBy u (taken_in d t.pieces made) d) is cut) flies s drives)
+    write_sends so r (calls.starts rests_so full s drives answer) = as_ahead r (starts_on so rests_so s drives)
+    write_sends so r (calls.goes_on piece p is s drives answer) =
+        as_ahead r (drives_on Now (joined (drop (made + 1) t.pieces)) rest_of (write piece) tt p is (subst (λ (d : Doing). CutBy u (taken_in d t.pieces made) d) is cut) flies so s drives)
 
   -- ---- a close
 
-  module _ (made : ℕ) (all : length t.pieces ≤ made) (doing : IsPutDoing u.doing made (length t.pieces)) (cut : CutBy u (taken_in u.doing t.pieces made) u.doing) (flies : PutFlies t u.doing) where
-    as_end : (r : Step2) → AddsTold (IsPutCommand t) log log' × (u'.aim ≡ put_aim t) × Stands t u' (joined t.pieces) u'.doing → PollSent t log log' u' (AheadEnd r) (joined t.pieces)
-    as_end r s = record { adds = s.0; aim_is = s.1; stands = ahead_end r (Stands t u' (joined t.pieces) u'.doing) s.2 }
+  module _ (made : ℕ) (all : length t.pieces ≤ made) (doing : IsPutDoing u.doing made (length t.pieces)) (cut : CutBy u (taken_in u.doing t.pieces made) u.doing) (flies : PutFlies supply t u.doing) where
+    as_end : (r : Step2) → AddsTold (IsPutCommand supply t) log log' × (u'.aim ≡ put_aim t) × Stands supply t u' (joined t.pieces) u'.doing → PollSent supply t log log' u' (AheadEnd r) (joined t.pieces)
+    as_end r s = record { adds = s.0; aim_is = s.1; stands = ahead_end r (Stands supply t u' (joined t.pieces) u'.doing) s.2 }
 
-    rests_on : (moment : ℤ) → u.doing ≡ idle → (s : Stepped) → Drives old new log log' wire ids drawn close u u' (rests moment) s → AddsTold (IsPutCommand t) log log' × (u'.aim ≡ put_aim t) × Stands t u' (joined t.pieces) u'.doing
-    rests_on moment is s d =
+    rests_on : DoingSupplied supply t ids u.sent u.doing → (moment : ℤ) → IsMoment supply.moment moment → u.doing ≡ idle → (s : Stepped) → Drives old new log log' wire ids drawn close u u' (rests moment) s → AddsTold (IsPutCommand supply t) log log' × (u'.aim ≡ put_aim t) × Stands supply t u' (joined t.pieces) u'.doing
+    rests_on so moment its is s d =
         let c : IsCutAt u (joined (take made t.pieces)) 0 = subst (λ (x : Doing). CutBy u (taken_in x t.pieces made) x) is cut in
         let whole : IsCutAt u (joined t.pieces) 0 = subst (λ (ps : List (List ℕ)). IsCutAt u (joined ps) 0) (take_all made t.pieces all) c in
-        driven t (joined t.pieces) close log log' d.left u' s d.behind
-        (steps_send t (joined t.pieces) [] (sym (append-nil (joined t.pieces))) close refl d.steps old new log log' wire ids drawn (at_work u) d.left (rests moment) s aim (bounds_doing u idle between.sound.bounds) (subst (SoundBy u) is between.sound.by) tt (cut_doing u idle (joined t.pieces) 0 whole) tt d.does)
+        driven supply t (joined t.pieces) close log log' d.left u' s d.behind
+        (steps_send supply t (joined t.pieces) [] (sym (append-nil (joined t.pieces))) close refl d.steps old new log log' wire ids drawn (at_work u) d.left (rests moment) s aim (bounds_doing u idle between.sound.bounds) (subst (SoundBy u) is between.sound.by) tt (cut_doing u idle (joined t.pieces) 0 whole) tt (subst (DoingSupplied supply t ids u.sent) is so, its) d.does)
 
     pub no_write : (piece : ℕ) (p : Phase) → u.doing ≡ busy (write piece) p → ⊥
     no_write piece p is = let more : made + 1 ≤ length t.pieces = subst (λ (d : Doing). IsPutDoing d made (length t.pieces)) is doing in omega (arith, more, all)
 
-    pub close_sends : (moment : ℤ) (r : Step2) → Closes old new log log' wire ids drawn moment u u' r → PollSent t log log' u' (AheadEnd r) (joined t.pieces)
-    close_sends moment r (calls.refused refuses quiet is) = absurd (takes_close u.doing made (length t.pieces) doing refuses)
-    close_sends moment r (calls.starts rests_so s drives answer) = as_end r (rests_on moment rests_so s drives)
-    close_sends moment r (calls.gives_up piece p is s drives answer) = absurd (no_write piece p is)
-    close_sends moment r (calls.goes_on p is s drives answer) =
-        as_end r (drives_on (joined t.pieces) [] (sym (append-nil (joined t.pieces))) close refl p is (subst (λ (d : Doing). CutBy u (taken_in d t.pieces made) d) is cut) flies s drives)
+    pub close_sends : DoingSupplied supply t ids u.sent u.doing → (moment : ℤ) → IsMoment supply.moment moment → (r : Step2) → Closes old new log log' wire ids drawn moment u u' r → PollSent supply t log log' u' (AheadEnd r) (joined t.pieces)
+    close_sends so moment its r (calls.refused refuses quiet is) = absurd (takes_close u.doing made (length t.pieces) doing refuses)
+    close_sends so moment its r (calls.starts rests_so s drives answer) = as_end r (rests_on so moment its rests_so s drives)
+    close_sends so moment its r (calls.gives_up piece p is s drives answer) = absurd (no_write piece p is)
+    close_sends so moment its r (calls.goes_on p is s drives answer) =
+        as_end r (drives_on (joined t.pieces) [] (sym (append-nil (joined t.pieces))) close refl p is (subst (λ (d : Doing). CutBy u (taken_in d t.pieces made) d) is cut) flies so s drives)
+
+-- ---- what its source gives behind a poll
+
+module _ (supply : Supply) (t : PutTask) (old new : Awaited) (log log' : LogTold) (wire : ℤ) (ids later : ℕ → List ℕ) (drawn : ℕ) (behind : AreLater ids drawn later) (u u' : ClientUpload) (between : IsBetween u) (so : DoingSupplied supply t ids u.sent u.doing) where
+  -- the source behind it
+  abbrev Then : Type 0
+  Then = DoingSupplied supply t later u'.sent u'.doing
+
+  -- nothing was drawn
+  then_as : (v : ClientUpload) → u' ≡ v → drawn ≡ 0 → DoingSupplied supply t ids v.sent v.doing → Then
+  then_as v is none h =
+      subst (λ (x : ClientUpload). DoingSupplied supply t later x.sent x.doing) (sym is)
+      (doing_as supply t ids later (λ k. (let same : drawn + k ≡ k = omega (arith, none) in behind k ∙ ap ids same)) v.sent v.doing h)
+
+  drives_supplied : (call : uploads.Call) (p : Phase) (v : ClientUpload) (s : Stepped) → IsOfCall call p → PhaseSupplied supply t ids v.sent p → Drives old new log log' wire ids drawn call v u' p s → Then
+  drives_supplied call p v s own h d =
+      subst (λ (x : ClientUpload). DoingSupplied supply t later x.sent x.doing) (sym d.behind)
+      (doing_as supply t (ids_behind drawn ids) later (λ k. behind k) d.left.sent (doing_behind call s) (steps_supplied supply t call d.steps old new log log' wire ids drawn (at_work v) d.left p s own h d.does))
+
+  goes_supplied : (call : uploads.Call) (p : Phase) (s : Stepped) → u.doing ≡ busy call p → Drives old new log log' wire ids drawn call u u' p s → Then
+  goes_supplied call p s is d = drives_supplied call p u s (subst RestsBy is between.rests_so).1 (subst (DoingSupplied supply t ids u.sent) is so) d
+
+  module _ (bytes : List ℕ) (made count : ℕ) (within : made < count) (doing : IsPutDoing u.doing made count) where
+    pub write_supplied : (r : WritePoll) → Writes old new log log' wire ids drawn u u' bytes r → Ahead r Then
+    write_supplied r (calls.refused refuses quiet is) = absurd (takes_write u.doing made count doing within refuses)
+    write_supplied r (calls.not_taken rests_so quiet is) = subst (λ (x : WritePoll). Ahead x Then) (sym is) tt
+    write_supplied r (calls.kept rests_so short quiet none is answer) = ahead r Then (then_as (with_bytes bytes u) is none so)
+    write_supplied r (calls.starts rests_so full s drives answer) =
+        ahead r Then (drives_supplied (write (length bytes)) (first_phase u) (with_bytes bytes u) s (begun_writes (length bytes) u.checked) (first_supplied supply t ids u.sent u.checked (subst (DoingSupplied supply t ids u.sent) rests_so so)) drives)
+    write_supplied r (calls.goes_on piece p is s drives answer) = ahead r Then (goes_supplied (write piece) p s is drives)
+
+  module _ (made count : ℕ) (all : count ≤ made) (doing : IsPutDoing u.doing made count) where
+    pub close_supplied : (moment : ℤ) → IsMoment supply.moment moment → (r : Step2) → Closes old new log log' wire ids drawn moment u u' r → AheadEnd r Then
+    close_supplied moment its r (calls.refused refuses quiet is) = absurd (takes_close u.doing made count doing refuses)
+    close_supplied moment its r (calls.starts idle_so s drives answer) = ahead_end r Then (drives_supplied close (rests moment) u s tt (subst (DoingSupplied supply t ids u.sent) idle_so so, its) drives)
+    close_supplied moment its r (calls.gives_up piece p is s drives answer) = (let more : made + 1 ≤ count = subst (λ (d : Doing). IsPutDoing d made count) is doing in absurd (omega (arith, more, all)))
+    close_supplied moment its r (calls.goes_on p is s drives answer) = ahead_end r Then (goes_supplied close p s is drives)
 
 -- ---- what is taken
 

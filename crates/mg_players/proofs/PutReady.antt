@@ -1,5 +1,5 @@
 -- A put that draws its ids is the same to others, and tells the same.
-use Rattle.std.proofs.Common.{◌≡◌, ◌<◌, ◌≤◌, ◌^◌, ℕ, ℤ, Bool, List, Result, Ok, Err, refl, sym, ap, ◌∙◌, subst, arith}
+use Rattle.std.proofs.Common.{◌≡◌, ◌<◌, ◌≤◌, ◌+◌, ◌^◌, ℕ, ℤ, Bool, List, Result, Ok, Err, refl, sym, ap, ◌∙◌, subst, arith}
 use Rattle.std.specs.Prelude.{if◌then◌else◌}
 use Rattle.std.proofs.lemmas.Bool.{le-ltb, lt-ltb}
 use Rattle.mg_link.specs.Link.{Awaited}
@@ -9,7 +9,7 @@ use Rattle.mg_records.specs.FileRecords.{chunk_count_of}
 use Rattle.mg_players.specs.Plays.{Places}
 use Rattle.mg_players.specs.Progress.{PutAt, PutReady}
 use Rattle.mg_players.specs.Putting.{Drew, DrewFor}
-use Rattle.mg_players.specs.Puts.{BegunFor, PutKnows, PutStageHolds, PutTask, chunks_in, puts_ticket, total, where_counted}
+use Rattle.mg_players.specs.Puts.{BegunFor, PutKnows, PutStageHolds, PutTask, Supply, chunks_in, puts_ticket, total, where_counted}
 use Rattle.mg_players.specs.Telling.{PutTells, put_number}
 use Rattle.mg_players.specs.declared.put.Beginning.{Beginning}
 use Rattle.mg_players.specs.declared.put.PutStage.{PutStage}
@@ -30,9 +30,15 @@ chunks_none chunk pieces many = ap (λ (b : Bool). if b then where_counted (chun
 
 -- ---- its stage
 
-begun_for : (ids : ℕ → List ℕ) (t : PutTask) (begun : Result Beginning Error) → Drew ids t begun → BegunFor t begun
-begun_for ids t (Ok begun) drew = drew.0
-begun_for ids t (Err e) drew = drew
+-- it is supplied with the ids that it drew
+begun_for : (ids : ℕ → List ℕ) (supply : Supply) (t : PutTask) (begun : Result Beginning Error) → ((k : ℕ) → supply.ids k ≡ ids k) → Drew ids t begun → BegunFor supply t begun
+begun_for ids supply t (Ok begun) its drew = (
+  drew.0,
+  λ k within.
+      let same : 0 + k ≡ k = omega arith in
+      drew.1 k (subst (λ (m : ℕ). m < chunks_in t.chunk t.pieces) same within) ∙ sym (its k) ∙ ap supply.ids (sym same),
+)
+begun_for ids supply t (Err e) its drew = drew
 
 module _ (ids : ℕ → List ℕ) (t : PutTask) where
   pub drew_ticket : (s s' : PutStage) → DrewFor ids t s s' → puts_ticket s' ≡ puts_ticket s
@@ -80,11 +86,11 @@ module _ (ids : ℕ → List ℕ) (t : PutTask) where
   drew_number (puts.Goes going) s' done drew = ap (put_number done) drew
   drew_number (puts.Ended end) s' done drew = ap (put_number done) drew
 
-  pub drew_tells : (awaited : Awaited) (calls : List Call) (wire : ℤ) (q : Places) (done : ℕ) (s s' : PutStage) → DrewFor ids t s s' → PutTells awaited calls wire q t done s → PutTells awaited calls wire q t done s'
-  drew_tells awaited calls wire q done puts.Undrawn puts.Undrawn drew told = absurd drew
-  drew_tells awaited calls wire q done puts.Undrawn (puts.Begins begun) drew told = (told.0, told.1, begun_for ids t begun drew)
-  drew_tells awaited calls wire q done puts.Undrawn (puts.Goes going) drew told = absurd drew
-  drew_tells awaited calls wire q done puts.Undrawn (puts.Ended end) drew told = absurd drew
-  drew_tells awaited calls wire q done (puts.Begins begun) s' drew told = subst (PutTells awaited calls wire q t done) (sym drew) told
-  drew_tells awaited calls wire q done (puts.Goes going) s' drew told = subst (PutTells awaited calls wire q t done) (sym drew) told
-  drew_tells awaited calls wire q done (puts.Ended end) s' drew told = subst (PutTells awaited calls wire q t done) (sym drew) told
+  pub drew_tells : (awaited : Awaited) (calls : List Call) (wire : ℤ) (q : Places) (supply : Supply) (done : ℕ) (s s' : PutStage) → (s ≡ puts.Undrawn → (k : ℕ) → supply.ids k ≡ ids k) → DrewFor ids t s s' → PutTells awaited calls wire q supply t done s → PutTells awaited calls wire q supply t done s'
+  drew_tells awaited calls wire q supply done puts.Undrawn puts.Undrawn its drew told = absurd drew
+  drew_tells awaited calls wire q supply done puts.Undrawn (puts.Begins begun) its drew told = (told.0, told.1, begun_for ids supply t begun (its refl) drew)
+  drew_tells awaited calls wire q supply done puts.Undrawn (puts.Goes going) its drew told = absurd drew
+  drew_tells awaited calls wire q supply done puts.Undrawn (puts.Ended end) its drew told = absurd drew
+  drew_tells awaited calls wire q supply done (puts.Begins begun) s' its drew told = subst (PutTells awaited calls wire q supply t done) (sym drew) told
+  drew_tells awaited calls wire q supply done (puts.Goes going) s' its drew told = subst (PutTells awaited calls wire q supply t done) (sym drew) told
+  drew_tells awaited calls wire q supply done (puts.Ended end) s' its drew told = subst (PutTells awaited calls wire q supply t done) (sym drew) told

@@ -1,6 +1,6 @@
 -- What a put tells goes on to hold while others call, and its ticket is that of a call of its own.
-use Rattle.std.proofs.Common.{◌≡◌, ◌∷◌, true, false, ℕ, ℤ, List, [], length, Option, Some, None, inl, inr}
-use Rattle.mg_link.specs.Calls.{Grows, Keeps, Past, past_of}
+use Rattle.std.proofs.Common.{◌≡◌, ◌∷◌, Bool, true, false, ℕ, ℤ, List, [], length, Option, Some, None, sym, subst, inl, inr}
+use Rattle.mg_link.specs.Calls.{Grows, Keeps, Past, RequestFails, past_of}
 use Rattle.mg_link.specs.Files.{Bucket}
 use Rattle.mg_link.specs.Link.{Awaited}
 use Rattle.mg_link.specs.Log.{Call, reply}
@@ -28,15 +28,17 @@ use Rattle.mg_gridfs.specs.Uploads.{Aim, ClientUpload, Doing, Flight, Phase, beg
 use Rattle.mg_gridfs.specs.UploadView.{upload_of}
 use Rattle.mg_gridfs.proofs.Holding.{same_own, settled_own, uploads_go_on}
 use Rattle.mg_players.specs.Causes.{sent_at}
+use Rattle.mg_players.specs.Drawing.{PutHadTurn}
 use Rattle.mg_players.specs.Plays.{Places, all_places}
 use Rattle.mg_players.specs.PutFailures as fails
 use Rattle.mg_players.specs.PutFailures.{CheckReads, PhaseReads, PutCheckFails, PutFails, PutReads}
 use Rattle.mg_players.specs.PutSends.{DoingSent, PutEndsSent}
-use Rattle.mg_players.specs.Puts.{PutTask, joined, put_aim, put_bucket, puts_ticket, taken_in}
+use Rattle.mg_players.specs.Puts.{PutTask, Supply, joined, put_aim, put_bucket, puts_ticket, taken_in}
 use Rattle.mg_players.specs.Telling.{PutTells}
 use Rattle.mg_players.specs.declared.put.PutStage.{PutStage}
 use Rattle.mg_players.specs.declared.put.PutStage.TheVariants as puts
 use Rattle.mg_players.proofs.PutOrdered.{said_kept}
+use Rattle.mg_players.proofs.PutCreated.{asks_grows, behind_grows, creation_grows}
 use Rattle.mg_players.proofs.PutListing.{batch_grows, listed_grows, more_fails_grows, none_grows, of_list_grows, reads_grows}
 use Rattle.mg_players.proofs.Telling.{grows_later}
 use Rattle.mg_script.specs.declared.outcome.Ended.TheVariants as ended
@@ -52,7 +54,7 @@ module _ (past past' : Past) (grows : Grows past past') where
   check_fails_on b e (fails.not_built lines its cannot) = fails.not_built lines its cannot
   check_fails_on b e (fails.by_find failed) = fails.by_find (request_fails_grows past past' grows (fields_in (any_lines b)) true TellsNoCursor e failed)
   check_fails_on b e (fails.by_creation at failed other) = fails.by_creation at (request_fails_grows past past' grows (fields_in (creation_lines b at)) false ListsFailure e failed) other
-  check_fails_on b e (fails.by_listing at failed) = fails.by_listing at (request_fails_grows past past' grows (fields_in (listing_lines b at)) true TellsNoCursor e failed)
+  check_fails_on b e (fails.by_listing at created failed) = fails.by_listing at (creation_grows past past' grows b at created) (behind_grows past past' grows created.place (λ p. RequestFails p (fields_in (listing_lines b at)) true TellsNoCursor e) failed)
   check_fails_on b e (fails.by_index at failed) = fails.by_index at (request_fails_grows past past' grows (fields_in (index_lines b at)) false ListsFailure e failed)
   check_fails_on b e (fails.not_asked c l cannot) = fails.not_asked c (of_list_grows past past' grows b c l) cannot
   check_fails_on b e (fails.by_more c l failed) = fails.by_more c (of_list_grows past past' grows b c l) (more_fails_grows past past' grows b c e failed)
@@ -124,7 +126,7 @@ module _ (past past' : Past) (grows : Grows past past') where
     check_reads_on : (b : ClientBucket) (c : ClientCheck) → Same old new (check_ticket c) → CheckReads old past b c → CheckReads new past' b c
     check_reads_on b (finds sending) same h = tt
     check_reads_on b (creates at sending) same h = tt
-    check_reads_on b (lists at sending) same h = tt
+    check_reads_on b (lists at sending) same h = asks_grows past past' grows old new b at sending same h
     check_reads_on b (reads at d found count) same h = reads_grows past past' grows b old new d count same h
     check_reads_on b (indexes at sending) same h = tt
 
@@ -185,10 +187,10 @@ cleared_on calls calls' wire places at u e onward h leaves = let k = h leaves in
 
 -- ---- a put
 
-pub put_later : (t : PutTask) (old new : Awaited) (calls calls' : List Call) (wire : ℤ) (q : Places) (done : ℕ) (s : PutStage) → Keeps calls calls' → Onward calls calls' nobody → Same old new (puts_ticket s) → PutTells old calls wire q t done s → PutTells new calls' wire q t done s
-put_later t old new calls calls' wire q done puts.Undrawn keeps onward same told = told
-put_later t old new calls calls' wire q done (puts.Begins begun) keeps onward same told = told
-put_later t old new calls calls' wire q done (puts.Goes going) keeps onward same told =
+pub put_later : (supply : Supply) (t : PutTask) (old new : Awaited) (calls calls' : List Call) (wire : ℤ) (q : Places) (done : ℕ) (s : PutStage) → Keeps calls calls' → Onward calls calls' nobody → Same old new (puts_ticket s) → PutTells old calls wire q supply t done s → PutTells new calls' wire q supply t done s
+put_later supply t old new calls calls' wire q done puts.Undrawn keeps onward same told = told
+put_later supply t old new calls calls' wire q done (puts.Begins begun) keeps onward same told = told
+put_later supply t old new calls calls' wire q done (puts.Goes going) keeps onward same told =
     let u = upload_of going.upload in (
       record {
         aim_is = told.0.aim_is;
@@ -197,18 +199,19 @@ put_later t old new calls calls' wire q done (puts.Goes going) keeps onward same
         counted = told.0.counted;
         cut = told.0.cut;
         flies = told.0.flies;
+        supplied = told.0.supplied;
         its = told.0.its;
         reads = reads_on (sent_at q.now calls wire) (sent_at q.now calls' wire) (grows_later q.now calls calls' wire keeps) old new (put_bucket t) u.doing same told.0.reads;
         underway = uploading_on (sent_at q.now calls wire) (sent_at q.now calls' wire) (grows_later q.now calls calls' wire keeps) old new u.aim u.doing same told.0.underway;
         knows = uploads_go_on old new calls calls' wire (all_places q) t.at u (taken_in u.doing t.pieces done) onward same told.0.knows;
-        said = said_kept calls calls' q (λ commands. DoingSent t commands u.checked u.sent u.doing) keeps told.0.said;
+        said = said_kept calls calls' q (λ commands. DoingSent supply t commands u.checked u.sent u.doing) keeps told.0.said;
       },
       told.1,
     )
-put_later t old new calls calls' wire q done (puts.Ended ended.Unfinished) keeps onward same told = (told.0, told.1, told.2, told.3, said_kept calls calls' q (λ commands. PutEndsSent t commands ended.Unfinished) keeps told.4)
-put_later t old new calls calls' wire q done (puts.Ended (ended.Gave n)) keeps onward same told =
-    (told.0, told.1, (told.2.0, told.2.1, stored_on calls calls' wire (all_places q) t.at (fresh_upload (put_aim t)) (joined t.pieces) onward told.2.2), told.3, said_kept calls calls' q (λ commands. PutEndsSent t commands (ended.Gave n)) keeps told.4)
-put_later t old new calls calls' wire q done (puts.Ended (ended.Failed e)) keeps onward same told = (
+put_later supply t old new calls calls' wire q done (puts.Ended ended.Unfinished) keeps onward same told = (told.0, told.1, told.2, told.3, said_kept calls calls' q (λ commands. PutEndsSent supply t commands ended.Unfinished) keeps told.4)
+put_later supply t old new calls calls' wire q done (puts.Ended (ended.Gave n)) keeps onward same told =
+    (told.0, told.1, (told.2.0, told.2.1, stored_on calls calls' wire (all_places q) t.at (fresh_upload (put_aim t)) (joined t.pieces) onward told.2.2), told.3, said_kept calls calls' q (λ commands. PutEndsSent supply t commands (ended.Gave n)) keeps told.4)
+put_later supply t old new calls calls' wire q done (puts.Ended (ended.Failed e)) keeps onward same told = (
   told.0,
   told.1,
   elim told.2 [
@@ -216,8 +219,15 @@ put_later t old new calls calls' wire q done (puts.Ended (ended.Failed e)) keeps
     | inr fails ↦ inr (fails.0, fails_on (sent_at q.now calls wire) (sent_at q.now calls' wire) (grows_later q.now calls calls' wire keeps) t e fails.1, cleared_on calls calls' wire (all_places q) t.at (fresh_upload (put_aim t)) e onward fails.2)
   ],
   told.3,
-  said_kept calls calls' q (λ commands. PutEndsSent t commands (ended.Failed e)) keeps told.4,
+  said_kept calls calls' q (λ commands. PutEndsSent supply t commands (ended.Failed e)) keeps told.4,
 )
+
+-- It tells the same where it is supplied otherwise, unless it had a turn.
+pub put_of_others : (supply supply' : Supply) (awaited : Awaited) (calls : List Call) (wire : ℤ) (q : Places) (t : PutTask) (done : ℕ) (s : PutStage) (had : Bool) → PutHadTurn had s → (had ≡ true → supply' ≡ supply) → PutTells awaited calls wire q supply t done s → PutTells awaited calls wire q supply' t done s
+put_of_others supply supply' awaited calls wire q t done puts.Undrawn had turn same told = told
+put_of_others supply supply' awaited calls wire q t done (puts.Begins begun) had turn same told = subst (λ (x : Supply). PutTells awaited calls wire q x t done (puts.Begins begun)) (sym (same turn)) told
+put_of_others supply supply' awaited calls wire q t done (puts.Goes going) had turn same told = subst (λ (x : Supply). PutTells awaited calls wire q x t done (puts.Goes going)) (sym (same turn)) told
+put_of_others supply supply' awaited calls wire q t done (puts.Ended end) had turn same told = subst (λ (x : Supply). PutTells awaited calls wire q x t done (puts.Ended end)) (sym (same turn)) told
 
 -- ---- whose ticket it holds
 

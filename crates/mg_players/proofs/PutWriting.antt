@@ -23,18 +23,19 @@ use Rattle.mg_gridfs.specs.declared.polls.WritePoll.{WritePoll}
 use Rattle.mg_gridfs.specs.declared.polls.WritePoll.TheVariants as wrote
 use Rattle.mg_gridfs.proofs.Holding.{uploads_settle}
 use Rattle.mg_bson.specs.Tree.{Fields}
+use Rattle.mg_ops.specs.Drawn.{AreLater}
 use Rattle.mg_ops.specs.Logs.{AddsJust}
 use Rattle.mg_script.specs.declared.outcome.Ended.TheVariants as ended
 use Rattle.mg_players.specs.Causes.{commands_at, places_from, sent_at, sent_since}
 use Rattle.mg_players.specs.Plays.{Places, all_places}
 use Rattle.mg_players.specs.PutFailures.{AnswersPut, PutFails, PutReads}
-use Rattle.mg_players.specs.Puts.{CutBy, IsPutDoing, PutTask, joined, put_aim, put_bucket, taken_in}
+use Rattle.mg_players.specs.Puts.{CutBy, DoingSupplied, IsMoment, IsPutDoing, PutTask, Supply, joined, put_aim, put_bucket, taken_in}
 use Rattle.mg_players.specs.Sends.{IsPutCommand}
 use Rattle.mg_players.specs.PutSends.{DoingSent, PutEndsSent}
 use Rattle.mg_players.specs.Telling.{PutSaid, PutTellsOpen}
 use Rattle.mg_players.proofs.PutOrdered.{CloseSaid, WriteSaid, close_order, said_more, write_order}
 use Rattle.mg_players.proofs.PutFailed.{CloseEnds, WriteEnds, close_ends, write_ends}
-use Rattle.mg_players.proofs.PutPolled.{Ahead, AheadEnd, PollSent, close_sends, taken_on, taken_whole, takes_close, takes_write, write_sends}
+use Rattle.mg_players.proofs.PutPolled.{Ahead, AheadEnd, PollSent, close_sends, close_supplied, taken_on, taken_whole, takes_close, takes_write, write_sends, write_supplied}
 use Rattle.mg_players.proofs.PutSending.{Stands}
 use Rattle.mg_players.proofs.PutTelling.{cleared_settles, fails_on, reads_on, stored_settles, uploading_on}
 use Rattle.mg_players.proofs.Telling.{answered_by, going_on, grows_ended, in_first, is_since, since_is}
@@ -111,10 +112,10 @@ close_leaves u u' e made count doing same (inr left) = absurd (takes_close u.doi
 -- ---- a write
 
 -- what a poll of a write says
-pub record WritePolled (old new : Awaited) (log log' : LogTold) (wire : ℤ) (u u' : ClientUpload) (bytes : List ℕ) (r : WritePoll) : Type 0 where
-  pub ids : ℕ → List ℕ
+pub record WritePolled (ids later : ℕ → List ℕ) (old new : Awaited) (log log' : LogTold) (wire : ℤ) (u u' : ClientUpload) (bytes : List ℕ) (r : WritePoll) : Type 0 where
   pub twelve : (k : ℕ) → length (ids k) ≡ 12
   pub drawn : ℕ
+  pub behind : AreLater ids drawn later
   pub does : Writes old new log log' wire ids drawn u u' bytes r
   pub leaves : LeavesWrite u u' r
   pub caused : WriteCaused old new log log' wire u u' r
@@ -122,16 +123,19 @@ pub record WritePolled (old new : Awaited) (log log' : LogTold) (wire : ℤ) (u 
   pub passes : LeavesOthers old new log log' u u'
   pub tickets : Tickets old new (upload_ticket u) (upload_ticket u')
 
-module _ (t : PutTask) (old new : Awaited) (log log' : LogTold) (wire : ℤ) (u u' : ClientUpload) (bytes : List ℕ) (r : WritePoll) (polled : WritePolled old new log log' wire u u' bytes r) (between : IsBetween u) (made : ℕ) (there : slice_get t.pieces made ≡ Some bytes) (doing : IsPutDoing u.doing made (length t.pieces)) (calls calls' : List Call)
-    (told : log ≡ Some calls) (told' : log' ≡ Some calls') (q : Places) (tells : PutTellsOpen old calls wire q t made u) where
+module _ (supply : Supply) (t : PutTask) (ids later : ℕ → List ℕ) (old new : Awaited) (log log' : LogTold) (wire : ℤ) (u u' : ClientUpload) (bytes : List ℕ) (r : WritePoll) (polled : WritePolled ids later old new log log' wire u u' bytes r) (between : IsBetween u) (made : ℕ) (there : slice_get t.pieces made ≡ Some bytes) (doing : IsPutDoing u.doing made (length t.pieces)) (calls calls' : List Call)
+    (told : log ≡ Some calls) (told' : log' ≡ Some calls') (q : Places) (tells : PutTellsOpen old calls wire q supply t ids made u) where
   within : made < length t.pieces
   within = get_within t.pieces made bytes there
 
-  sent : PollSent t log log' u' (Ahead r) (joined (take (made + 1) t.pieces))
-  sent = write_sends t old new log log' wire polled.ids polled.drawn u u' between tells.aim_is bytes made there within doing tells.cut tells.flies r polled.does
+  sent : PollSent supply t log log' u' (Ahead r) (joined (take (made + 1) t.pieces))
+  sent = write_sends supply t old new log log' wire ids polled.drawn u u' between tells.aim_is bytes made there within doing tells.cut tells.flies tells.supplied r polled.does
 
-  pub write_adds : AddsOnly (IsPutCommand t) calls calls'
-  write_adds = let a = sent.adds calls told in as_told t old new log log' wire u u' calls calls' told' q (AddsOnly (IsPutCommand t) calls) a.0 a.1 a.2
+  supplied : Ahead r (DoingSupplied supply t later u'.sent u'.doing)
+  supplied = write_supplied supply t old new log log' wire ids later polled.drawn polled.behind u u' between tells.supplied bytes made (length t.pieces) within doing r polled.does
+
+  pub write_adds : AddsOnly (IsPutCommand supply t) calls calls'
+  write_adds = let a = sent.adds calls told in as_told t old new log log' wire u u' calls calls' told' q (AddsOnly (IsPutCommand supply t) calls) a.0 a.1 a.2
 
   pub write_room : length calls ≤ length calls'
   write_room = keeps_longer calls calls' write_adds.keeps
@@ -146,25 +150,25 @@ module _ (t : PutTask) (old new : Awaited) (log log' : LogTold) (wire : ℤ) (u 
 
   ends_so : WriteEnds t new u' r (past_of q.now (length calls) calls' wire)
   ends_so =
-      let w = write_ends t old new log log' wire polled.ids polled.drawn polled.twelve u u' between tells.aim_is calls told q.now tells.underway (tells.its, tells.reads) bytes made there within doing tells.cut tells.flies r polled.does in
+      let w = write_ends supply t old new log log' wire ids polled.drawn polled.twelve u u' between tells.aim_is calls told q.now tells.underway (tells.its, tells.reads) tells.supplied bytes made there within doing tells.cut tells.flies r polled.does in
       as_told t old new log log' wire u u' calls calls' told' q (λ (l : List Call). WriteEnds t new u' r (past_of q.now (length calls) l wire)) w.0 w.1 w.3
 
-  ordered : (more : List Fields) × AddsJust log log' more × WriteSaid t (commands_at calls (all_places q) ++ more) u' r
-  ordered = write_order t old new log log' wire polled.ids polled.drawn u u' between tells.aim_is (commands_at calls (all_places q)) tells.said.sends bytes made there within doing tells.cut tells.flies r polled.does
+  ordered : (more : List Fields) × AddsJust log log' more × WriteSaid supply t (commands_at calls (all_places q) ++ more) u' r
+  ordered = write_order supply t old new log log' wire ids polled.drawn u u' between tells.aim_is (commands_at calls (all_places q)) tells.said.sends tells.supplied bytes made there within doing tells.cut tells.flies r polled.does
 
   -- so it has said behind it, by what it comes to
-  said_so : (q' : Places) → all_places q' ≡ sent_since (all_places q) (length calls) (length calls') → (x : WritePoll) → r ≡ x → PutSaid calls' q' (λ commands. WriteSaid t commands u' x)
-  said_so q' whole x is = subst (λ (y : WritePoll). PutSaid calls' q' (λ commands. WriteSaid t commands u' y)) is (said_more log log' calls calls' q q' (λ commands. DoingSent t commands u.checked u.sent u.doing) (λ commands. WriteSaid t commands u' r) told told' write_adds.keeps whole tells.said ordered)
+  said_so : (q' : Places) → all_places q' ≡ sent_since (all_places q) (length calls) (length calls') → (x : WritePoll) → r ≡ x → PutSaid calls' q' (λ commands. WriteSaid supply t commands u' x)
+  said_so q' whole x is = subst (λ (y : WritePoll). PutSaid calls' q' (λ commands. WriteSaid supply t commands u' y)) is (said_more log log' calls calls' q q' (λ commands. DoingSent supply t commands u.checked u.sent u.doing) (λ commands. WriteSaid supply t commands u' r) told told' write_adds.keeps whole tells.said ordered)
 
   taken_so : (d : Doing) (made' : ℕ) → taken_in d t.pieces made' ≡ joined (take (made + 1) t.pieces) → taken_by u.doing (taken_in u.doing t.pieces made) bytes ≡ taken_in d t.pieces made'
   taken_so d made' same = taken_on u.doing t.pieces made bytes doing within there ∙ sym same
 
   -- it waits for a reply
-  pub write_waits : r ≡ wrote.Pending → PutTellsOpen new calls' wire (going_on q (length calls) (length calls')) t made u'
+  pub write_waits : r ≡ wrote.Pending → PutTellsOpen new calls' wire (going_on q (length calls) (length calls')) supply t later made u'
   write_waits is =
       let busy_so = subst (LeavesWrite u u') is polled.leaves in
       let taken : taken_in u'.doing t.pieces made ≡ joined (take (made + 1) t.pieces) = ap (λ (d : Doing). taken_in d t.pieces made) busy_so.2 in
-      let stands = subst (λ (x : WritePoll). Ahead x (Stands t u' (joined (take (made + 1) t.pieces)) u'.doing)) is sent.stands in
+      let stands = subst (λ (x : WritePoll). Ahead x (Stands supply t u' (joined (take (made + 1) t.pieces)) u'.doing)) is sent.stands in
       record {
         aim_is = sent.aim_is;
         sized = tells.sized;
@@ -173,6 +177,7 @@ module _ (t : PutTask) (old new : Awaited) (log log' : LogTold) (wire : ℤ) (u 
         cut = subst (λ (l : List ℕ). CutBy u' l u'.doing) (sym taken) stands.0;
         underway = underway_on t old new log log' wire u u' calls calls' told' q (subst (WriteCame new (past_of q.now (length calls) calls' wire) u u') is came);
         flies = stands.1;
+        supplied = subst (λ (x : WritePoll). Ahead x (DoingSupplied supply t later u'.sent u'.doing)) is supplied;
         its = (subst (λ (x : WritePoll). WriteEnds t new u' x (past_of q.now (length calls) calls' wire)) is ends_so).0;
         reads = reads_behind t old new log log' wire u u' calls calls' told' q (subst (λ (x : WritePoll). WriteEnds t new u' x (past_of q.now (length calls) calls' wire)) is ends_so).1;
         knows = knows_behind t old new log log' wire u u' calls calls' told' q (going_on q (length calls) (length calls')) (taken_by u.doing (taken_in u.doing t.pieces made) bytes) (taken_in u'.doing t.pieces made) write_room (whole_going q (length calls) (length calls')) (taken_so u'.doing made taken)
@@ -181,11 +186,11 @@ module _ (t : PutTask) (old new : Awaited) (log log' : LogTold) (wire : ℤ) (u 
       }
 
   -- one piece more is written
-  pub write_done : (n : ℕ) → r ≡ wrote.Wrote n → PutTellsOpen new calls' wire (answered_by q (length calls) (length calls')) t (made + 1) u'
+  pub write_done : (n : ℕ) → r ≡ wrote.Wrote n → PutTellsOpen new calls' wire (answered_by q (length calls) (length calls')) supply t later (made + 1) u'
   write_done n is =
       let rests_so : u'.doing ≡ idle = (subst (LeavesWrite u u') is polled.leaves).0 in
       let taken : taken_in u'.doing t.pieces (made + 1) ≡ joined (take (made + 1) t.pieces) = ap (λ (d : Doing). taken_in d t.pieces (made + 1)) rests_so in
-      let stands = subst (λ (x : WritePoll). Ahead x (Stands t u' (joined (take (made + 1) t.pieces)) u'.doing)) is sent.stands in
+      let stands = subst (λ (x : WritePoll). Ahead x (Stands supply t u' (joined (take (made + 1) t.pieces)) u'.doing)) is sent.stands in
       let own : List ℕ = sent_since q.now (length calls) (length calls') in
       record {
         aim_is = sent.aim_is;
@@ -195,6 +200,7 @@ module _ (t : PutTask) (old new : Awaited) (log log' : LogTold) (wire : ℤ) (u 
         cut = subst (λ (l : List ℕ). CutBy u' l u'.doing) (sym taken) stands.0;
         underway = subst (UnderwayBy new (sent_at [] calls' wire) u'.aim) (sym rests_so) tt;
         flies = stands.1;
+        supplied = subst (λ (x : WritePoll). Ahead x (DoingSupplied supply t later u'.sent u'.doing)) is supplied;
         its = subst (λ (d : Doing). AnswersPut t (error_by d)) (sym rests_so) tt;
         reads = subst (PutReads new (sent_at [] calls' wire) (put_bucket t)) (sym rests_so) tt;
         knows = knows_behind t old new log log' wire u u' calls calls' told' q (answered_by q (length calls) (length calls')) (taken_by u.doing (taken_in u.doing t.pieces made) bytes) (taken_in u'.doing t.pieces (made + 1)) write_room (whole_answered q (length calls) (length calls')) (taken_so u'.doing (made + 1) taken)
@@ -218,17 +224,16 @@ module _ (t : PutTask) (old new : Awaited) (log log' : LogTold) (wire : ℤ) (u 
       cleared_by (sent_at (all_places q') calls' wire) t u e tells.aim_is (cleared_settles calls calls' wire (all_places q) (all_places q') t.at u e (settled_all q q' (length calls) (length calls') write_room (whole_going q (length calls) (length calls'))) h)
 
   -- and it sent its commands in their order
-  pub write_said : (e : Error) → r ≡ wrote.Failed e → PutSaid calls' (going_on q (length calls) (length calls')) (λ commands. PutEndsSent t commands (ended.Failed e))
+  pub write_said : (e : Error) → r ≡ wrote.Failed e → PutSaid calls' (going_on q (length calls) (length calls')) (λ commands. PutEndsSent supply t commands (ended.Failed e))
   write_said e is = said_so (going_on q (length calls) (length calls')) (whole_going q (length calls) (length calls')) (wrote.Failed e) is
 
 -- ---- a close
 
 -- what a poll of a close says
-pub record ClosePolled (old new : Awaited) (log log' : LogTold) (wire : ℤ) (u u' : ClientUpload) (r : Step2) : Type 0 where
-  pub ids : ℕ → List ℕ
+pub record ClosePolled (ids later : ℕ → List ℕ) (moment : ℤ) (old new : Awaited) (log log' : LogTold) (wire : ℤ) (u u' : ClientUpload) (r : Step2) : Type 0 where
   pub twelve : (k : ℕ) → length (ids k) ≡ 12
   pub drawn : ℕ
-  pub moment : ℤ
+  pub behind : AreLater ids drawn later
   pub does : Closes old new log log' wire ids drawn moment u u' r
   pub leaves : LeavesEnd close u u' r
   pub caused : CloseCaused old new log log' wire u u' r
@@ -236,13 +241,16 @@ pub record ClosePolled (old new : Awaited) (log log' : LogTold) (wire : ℤ) (u 
   pub passes : LeavesOthers old new log log' u u'
   pub tickets : Tickets old new (upload_ticket u) (upload_ticket u')
 
-module _ (t : PutTask) (old new : Awaited) (log log' : LogTold) (wire : ℤ) (u u' : ClientUpload) (r : Step2) (polled : ClosePolled old new log log' wire u u' r) (between : IsBetween u) (made : ℕ) (all : length t.pieces ≤ made) (doing : IsPutDoing u.doing made (length t.pieces)) (calls calls' : List Call) (told : log ≡ Some calls) (told' : log' ≡ Some calls')
-    (q : Places) (tells : PutTellsOpen old calls wire q t made u) where
-  end_sent : PollSent t log log' u' (AheadEnd r) (joined t.pieces)
-  end_sent = close_sends t old new log log' wire polled.ids polled.drawn u u' between tells.aim_is made all doing tells.cut tells.flies polled.moment r polled.does
+module _ (supply : Supply) (t : PutTask) (ids later : ℕ → List ℕ) (moment : ℤ) (its : IsMoment supply.moment moment) (old new : Awaited) (log log' : LogTold) (wire : ℤ) (u u' : ClientUpload) (r : Step2) (polled : ClosePolled ids later moment old new log log' wire u u' r) (between : IsBetween u) (made : ℕ) (all : length t.pieces ≤ made) (doing : IsPutDoing u.doing made (length t.pieces)) (calls calls' : List Call) (told : log ≡ Some calls) (told' : log' ≡ Some calls')
+    (q : Places) (tells : PutTellsOpen old calls wire q supply t ids made u) where
+  end_sent : PollSent supply t log log' u' (AheadEnd r) (joined t.pieces)
+  end_sent = close_sends supply t old new log log' wire ids polled.drawn u u' between tells.aim_is made all doing tells.cut tells.flies tells.supplied moment its r polled.does
 
-  pub close_adds : AddsOnly (IsPutCommand t) calls calls'
-  close_adds = let a = end_sent.adds calls told in as_told t old new log log' wire u u' calls calls' told' q (AddsOnly (IsPutCommand t) calls) a.0 a.1 a.2
+  end_supplied : AheadEnd r (DoingSupplied supply t later u'.sent u'.doing)
+  end_supplied = close_supplied supply t old new log log' wire ids later polled.drawn polled.behind u u' between tells.supplied made (length t.pieces) all doing moment its r polled.does
+
+  pub close_adds : AddsOnly (IsPutCommand supply t) calls calls'
+  close_adds = let a = end_sent.adds calls told in as_told t old new log log' wire u u' calls calls' told' q (AddsOnly (IsPutCommand supply t) calls) a.0 a.1 a.2
 
   pub close_room : length calls ≤ length calls'
   close_room = keeps_longer calls calls' close_adds.keeps
@@ -257,27 +265,27 @@ module _ (t : PutTask) (old new : Awaited) (log log' : LogTold) (wire : ℤ) (u 
 
   closed_so : CloseEnds t new u' r (past_of q.now (length calls) calls' wire)
   closed_so =
-      let w = close_ends t old new log log' wire polled.ids polled.drawn polled.twelve u u' between tells.aim_is calls told q.now tells.underway (tells.its, tells.reads) made all doing tells.cut tells.flies polled.moment r polled.does in
+      let w = close_ends supply t old new log log' wire ids polled.drawn polled.twelve u u' between tells.aim_is calls told q.now tells.underway (tells.its, tells.reads) tells.supplied made all doing tells.cut tells.flies moment its r polled.does in
       as_told t old new log log' wire u u' calls calls' told' q (λ (l : List Call). CloseEnds t new u' r (past_of q.now (length calls) l wire)) w.0 w.1 w.3
 
-  end_ordered : (more : List Fields) × AddsJust log log' more × CloseSaid t (commands_at calls (all_places q) ++ more) u' r
-  end_ordered = close_order t old new log log' wire polled.ids polled.drawn u u' between tells.aim_is (commands_at calls (all_places q)) tells.said.sends made all doing tells.cut tells.flies polled.moment r polled.does
+  end_ordered : (more : List Fields) × AddsJust log log' more × CloseSaid supply t (commands_at calls (all_places q) ++ more) u' r
+  end_ordered = close_order supply t old new log log' wire ids polled.drawn u u' between tells.aim_is (commands_at calls (all_places q)) tells.said.sends tells.supplied made all doing tells.cut tells.flies moment its r polled.does
 
-  end_said : (x : Step2) → r ≡ x → PutSaid calls' (going_on q (length calls) (length calls')) (λ commands. CloseSaid t commands u' x)
+  end_said : (x : Step2) → r ≡ x → PutSaid calls' (going_on q (length calls) (length calls')) (λ commands. CloseSaid supply t commands u' x)
   end_said x is =
       let q' : Places = going_on q (length calls) (length calls') in
-      subst (λ (y : Step2). PutSaid calls' q' (λ commands. CloseSaid t commands u' y)) is
-      (said_more log log' calls calls' q q' (λ commands. DoingSent t commands u.checked u.sent u.doing) (λ commands. CloseSaid t commands u' r) told told' close_adds.keeps (whole_going q (length calls) (length calls')) tells.said end_ordered)
+      subst (λ (y : Step2). PutSaid calls' q' (λ commands. CloseSaid supply t commands u' y)) is
+      (said_more log log' calls calls' q q' (λ commands. DoingSent supply t commands u.checked u.sent u.doing) (λ commands. CloseSaid supply t commands u' r) told told' close_adds.keeps (whole_going q (length calls) (length calls')) tells.said end_ordered)
 
   end_taken : taken_in u.doing t.pieces made ≡ joined t.pieces
   end_taken = taken_whole u.doing t.pieces made doing all
 
   -- it waits for a reply
-  pub close_waits : r ≡ end.Pending → PutTellsOpen new calls' wire (going_on q (length calls) (length calls')) t made u'
+  pub close_waits : r ≡ end.Pending → PutTellsOpen new calls' wire (going_on q (length calls) (length calls')) supply t later made u'
   close_waits is =
       let busy_so = subst (LeavesEnd close u u') is polled.leaves in
       let taken : taken_in u'.doing t.pieces made ≡ joined t.pieces = ap (λ (d : Doing). taken_in d t.pieces made) busy_so.1 in
-      let stands = subst (λ (x : Step2). AheadEnd x (Stands t u' (joined t.pieces) u'.doing)) is end_sent.stands in
+      let stands = subst (λ (x : Step2). AheadEnd x (Stands supply t u' (joined t.pieces) u'.doing)) is end_sent.stands in
       record {
         aim_is = end_sent.aim_is;
         sized = tells.sized;
@@ -286,6 +294,7 @@ module _ (t : PutTask) (old new : Awaited) (log log' : LogTold) (wire : ℤ) (u 
         cut = subst (λ (l : List ℕ). CutBy u' l u'.doing) (sym taken) stands.0;
         underway = underway_on t old new log log' wire u u' calls calls' told' q (subst (CloseCame new (past_of q.now (length calls) calls' wire) u u') is end_came);
         flies = stands.1;
+        supplied = subst (λ (x : Step2). AheadEnd x (DoingSupplied supply t later u'.sent u'.doing)) is end_supplied;
         its = (subst (λ (x : Step2). CloseEnds t new u' x (past_of q.now (length calls) calls' wire)) is closed_so).0;
         reads = reads_behind t old new log log' wire u u' calls calls' told' q (subst (λ (x : Step2). CloseEnds t new u' x (past_of q.now (length calls) calls' wire)) is closed_so).1;
         knows = knows_behind t old new log log' wire u u' calls calls' told' q (going_on q (length calls) (length calls')) (taken_in u.doing t.pieces made) (taken_in u'.doing t.pieces made) close_room (whole_going q (length calls) (length calls')) (end_taken ∙ sym taken)
@@ -318,8 +327,8 @@ module _ (t : PutTask) (old new : Awaited) (log log' : LogTold) (wire : ℤ) (u 
       cleared_by (sent_at (all_places q') calls' wire) t u e tells.aim_is (cleared_settles calls calls' wire (all_places q) (all_places q') t.at u e (settled_all q q' (length calls) (length calls') close_room (whole_going q (length calls) (length calls'))) h)
 
   -- it sent its commands in their order
-  pub close_said_done : (n : ℕ) → r ≡ end.Done → PutSaid calls' (going_on q (length calls) (length calls')) (λ commands. PutEndsSent t commands (ended.Gave n))
+  pub close_said_done : (n : ℕ) → r ≡ end.Done → PutSaid calls' (going_on q (length calls) (length calls')) (λ commands. PutEndsSent supply t commands (ended.Gave n))
   close_said_done n is = end_said end.Done is
 
-  pub close_said_fails : (e : Error) → r ≡ end.Failed e → PutSaid calls' (going_on q (length calls) (length calls')) (λ commands. PutEndsSent t commands (ended.Failed e))
+  pub close_said_fails : (e : Error) → r ≡ end.Failed e → PutSaid calls' (going_on q (length calls) (length calls')) (λ commands. PutEndsSent supply t commands (ended.Failed e))
   close_said_fails e is = end_said (end.Failed e) is

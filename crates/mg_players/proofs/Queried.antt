@@ -12,7 +12,7 @@ use Rattle.mg_link.proofs.Cursoring.{put_is, kept_from}
 use Rattle.mg_link.proofs.Later.{later_step, grown-cursors, opens_given, opens_new, Respects, respects_step}
 use Rattle.mg_link.proofs.Owners.{same_some}
 use Rattle.mg_link.proofs.Places.{get_front}
-use Rattle.mg_players.specs.Spares.{AsksQuery, IsQueried}
+use Rattle.mg_players.specs.Reading.{AsksQuery, IsQueried}
 
 abbrev pub IsQuerying : Cursor → Type 0
 IsQuerying (watching w place) = ⊥

@@ -28,10 +28,11 @@ use Rattle.mg_records.specs.FileRecords.{FileRecord}
 use Rattle.mg_change.specs.Sent as calling
 use Rattle.mg_change.specs.Sent.{Falling, IsSentAt, KillsReplaced}
 use Rattle.mg_ops.specs.Appended.{Appended}
+use Rattle.mg_players.specs.Asking.{AllAskOn}
 use Rattle.mg_players.specs.Counts.{PolledBy, one_if}
-use Rattle.mg_players.specs.Drawing.{as_sent}
+use Rattle.mg_players.specs.Drawing.{as_sent, supply_of}
 use Rattle.mg_players.specs.Follows.{FollowedFrom, IsArgsFor, IsUnfinished, poll_of}
-use Rattle.mg_players.specs.Gets.{AsksForMore, AsksPlainly, GetTask, IsFindAt, chunks_find, get_bucket, get_of, more_chunks, no_room, record_find, room_of}
+use Rattle.mg_players.specs.Gets.{AsksPlainly, GetTask, IsFindAt, chunks_find, get_bucket, get_of, more_chunks, no_room, record_find, room_of}
 use Rattle.mg_gridfs.specs.Buckets.{IsSize}
 use Rattle.mg_gridfs.specs.Causes.{IsUploading}
 use Rattle.mg_gridfs.specs.Storing.{HasCleared, HasStored}
@@ -39,12 +40,12 @@ use Rattle.mg_gridfs.specs.Uploads.{ClientUpload, fresh_upload, upload_ticket}
 use Rattle.mg_players.specs.Kinds.{OfFollow, OfGet, OfInsert, OfPut}
 use Rattle.mg_players.specs.PutFailures.{PutFails}
 use Rattle.mg_players.specs.PutSends.{PutEndsSent}
-use Rattle.mg_players.specs.Puts.{CannotOpen, PutTask, joined, put_aim, put_of}
+use Rattle.mg_players.specs.Puts.{CannotOpen, PutTask, Supply, joined, put_aim, put_of}
 use Rattle.mg_ops.specs.InsertCauses.{InsertFails, InsertWaits}
 use Rattle.mg_ops.specs.InsertSends.{InsertPieces}
 use Rattle.mg_script.specs.Plan.{Begin, Task, insert, follow, put, get}
 use Rattle.mg_players.specs.Progress.{pends_last, turns_done}
-use Rattle.mg_players.specs.Spares.{ReadStops, SparesWhole}
+use Rattle.mg_players.specs.Reading.{HeardHeld, ListsOther, ReadStops}
 use Rattle.mg_script.specs.declared.outcome.Answer.{Answer}
 use Rattle.mg_script.specs.declared.outcome.Answer.TheVariants as answers
 use Rattle.mg_script.specs.declared.outcome.Ended.{Ended}
@@ -266,10 +267,6 @@ pub record OpeningAsks (calls : List Call) (wire : ℤ) (g : GetTask) (found : O
   pub finds : FallsAt (IsFindAt g found) calls 5 places 1
   pub heard : (f : FileRecord) → found ≡ Some f → HeardRecord (sent_at places calls wire) (get_bucket g.at) g.id (Some f)
 
--- at each of these places of the log stands a command that asks for more chunks
-abbrev pub AskForMore : List Call → List ℕ → Type 0
-AskForMore calls places = (place : ℕ) → IsOf places place → (call : Call) × (slice_get calls place ≡ Some call) × AsksForMore (fields call.command)
-
 -- its opening heard this record, and listed the chunks of no other file
 pub record GetOpened (c : Course) (i : ℕ) (calls : List Call) (wire : ℤ) (g : GetTask) (f : FileRecord) : Type 0 where
   pub places : List ℕ
@@ -282,23 +279,25 @@ abbrev pub GaveBy : (count bytes read : ℕ) → Type 0
 GaveBy count bytes read = (count ≤ bytes) × (bytes ≤ count * room_of read)
 
 -- Its turns sent just these commands: its opening at the first places; so many calls behind it, which have ended; and what goes on, or ended it, at the last ones.
--- Behind its opening each of them asks for more chunks. Those calls gave all of its bytes.
+-- Behind its opening each of them asks for more chunks by the cursor that the reply to the one before told. Those calls gave all of its bytes.
 pub record GetSent (c : Course) (i : ℕ) (calls : List Call) (g : GetTask) (bytes : ℕ) (opened : List ℕ) (k : ℕ) (now : List ℕ) : Type 0 where
   pub owns : List (List ℕ)
   pub counted : length owns ≡ k
   pub sent_each : (n : ℕ) (own : List ℕ) → slice_get owns n ≡ Some own → AllSentIn c i (suc n) own
   pub sent_now : AllSentIn c i (suc k) now
   pub whole : opened ++ (concat owns ++ now) ≡ places_of c i
-  pub more : AskForMore calls (concat owns ++ now)
+  pub more : AllAskOn calls (opened ++ (concat owns ++ now)) (concat owns ++ now)
   pub gave : GaveBy k bytes g.read
 
--- Why a read of the file with this record failed, by all that the get sent: its opening listed the chunks at this place.
-pub record GetStopped (c : Course) (i : ℕ) (calls : List Call) (wire : ℤ) (g : GetTask) (f : FileRecord) (e : Error) : Type 0 where
+-- Why a read of the file with this record failed, by all that the get sent: its opening listed the chunks at this place, and what this cursor held as the call began
+-- was heard.
+pub record GetStopped (c : Course) (i : ℕ) (calls : List Call) (wire : ℤ) (g : GetTask) (f : FileRecord) (cursor : ClientCursor) (e : Error) : Type 0 where
   pub places : List ℕ
   pub sent : AreSentIn c i places
   pub listed : ℕ
   pub by_opening : SentIn c i 0 listed
-  pub why : ReadStops (sent_at places calls wire) (SparesWhole calls g.at g.id f listed) e
+  pub held : HeardHeld (sent_at places calls wire) g f cursor
+  pub why : ReadStops (sent_at places calls wire) (ListsOther calls g.at f listed e) e
 
 -- Why a get fails: memory ran out; a read is to have no room, and then it may send nothing; its opening fails, for which all was sent; or a read of the file whose
 -- record the opening heard, which asks for more chunks by its own cursor, without options, and behind which nothing was sent: that of the first turn that did not
@@ -308,7 +307,7 @@ pub data GetFails (c : Course) (i : ℕ) (calls : List Call) (wire : ℤ) (g : G
   has_no_room : g.read ≡ 0 → e ≡ no_room → GetFails c i calls wire g bytes e
   not_opened : 0 < g.read → (places : List ℕ) → AllSentIn c i 0 places → files.OpeningFails (sent_at places calls wire) (get_bucket g.at) g.id e → places ≡ places_of c i → GetFails c i calls wire g bytes e
   not_read : 0 < g.read → (d : ClientDownload) (opened : GetOpened c i calls wire g d.file) (k : ℕ) → suc (suc k) ≤ turns_done i c.order c.notes → (places : List ℕ) → AllSentIn c i (suc k) places → (cursor : ClientCursor) → ReadFails (sent_at places calls wire) d cursor e
-      → cursor_in d.doing ≡ Some cursor → IsSoundDownload d → AsksPlainly d → GetSent c i calls g bytes opened.places k places → GetStopped c i calls wire g d.file e → GetFails c i calls wire g bytes e
+      → cursor_in d.doing ≡ Some cursor → IsSoundDownload d → AsksPlainly d → GetSent c i calls g bytes opened.places k places → GetStopped c i calls wire g d.file cursor e → GetFails c i calls wire g bytes e
 
 -- What a get waits for: the record, or the list of the chunks of the record that was heard, for which all was sent; or more of them.
 pub data GetWaits (awaited : Awaited) (c : Course) (i : ℕ) (calls : List Call) (wire : ℤ) (g : GetTask) (bytes : ℕ) : Type 0 where
@@ -351,7 +350,7 @@ pub record PutWaits (awaited : Awaited) (now : Past) (t : PutTask) : Type 0 wher
   pub underway : IsUploading awaited now upload
 
 -- the call that wrote each piece, and then its last call, sent its commands in its turns; its opening sent none
-pub record PutEnds (awaited : Awaited) (c : Course) (i : ℕ) (calls : List Call) (wire : ℤ) (t : PutTask) (end : Ended ℕ) : Type 0 where
+pub record PutEnds (awaited : Awaited) (c : Course) (i : ℕ) (calls : List Call) (wire : ℤ) (supply : Supply) (t : PutTask) (end : Ended ℕ) : Type 0 where
   pub owns : List (List ℕ)
   pub sent_each : (k : ℕ) (own : List ℕ) → slice_get owns k ≡ Some own → AllSentIn c i (suc k) own
   pub places : List ℕ
@@ -362,22 +361,22 @@ pub record PutEnds (awaited : Awaited) (c : Course) (i : ℕ) (calls : List Call
   -- where its newest turn pended and it has not ended
   pub waits : pends_last i c.order c.notes ≡ true → IsUnfinished end → PutWaits awaited (sent_at places calls wire) t
   pub written : HasWritten t (length owns) end
-  -- these are its commands, in their order
-  pub sends : PutEndsSent t (commands_at calls (places_of c i)) end
+  -- these are its commands, in their order, with what it is supplied with
+  pub sends : PutEndsSent supply t (commands_at calls (places_of c i)) end
 
 -- ---- all jobs
 
-abbrev pub OutcomeCaused : Awaited → Course → ℕ → List Call → ℤ → Task → Outcome → Type 0
-OutcomeCaused awaited c i calls wire (follow on count start filter batch) = OfFollow (λ opened said token alive closed. FollowCaused awaited c i count calls wire on start filter batch opened said.items token alive closed)
-OutcomeCaused awaited c i calls wire (insert ns docs) = OfInsert (λ end. InsertEnds awaited c i calls wire ns docs end)
-OutcomeCaused awaited c i calls wire (put db bucket name id chunk pieces) = OfPut (λ end. PutEnds awaited c i calls wire (put_of db bucket name id chunk pieces) end)
-OutcomeCaused awaited c i calls wire (get db bucket id read) = OfGet (λ bytes end. GetCaused awaited c i calls wire (get_of db bucket id read) (length bytes.items) end)
+abbrev pub OutcomeCaused : Awaited → Course → ℕ → List Call → ℤ → Supply → Task → Outcome → Type 0
+OutcomeCaused awaited c i calls wire supply (follow on count start filter batch) = OfFollow (λ opened said token alive closed. FollowCaused awaited c i count calls wire on start filter batch opened said.items token alive closed)
+OutcomeCaused awaited c i calls wire supply (insert ns docs) = OfInsert (λ end. InsertEnds awaited c i calls wire ns docs end)
+OutcomeCaused awaited c i calls wire supply (put db bucket name id chunk pieces) = OfPut (λ end. PutEnds awaited c i calls wire supply (put_of db bucket name id chunk pieces) end)
+OutcomeCaused awaited c i calls wire supply (get db bucket id read) = OfGet (λ bytes end. GetCaused awaited c i calls wire (get_of db bucket id read) (length bytes.items) end)
 
 -- Over a link that tells its log and awaits these replies, each job's outcome has its causes, and what it waits for, among the commands of its own turns;
--- inserts draw these ids.
-abbrev pub AllCaused : (ℕ → List ℕ) → Awaited → LogTold → LogTold → ℤ → List Task → List ℕ → List Turned → List Outcome → Type 0
-AllCaused ids awaited log log' wire tasks order notes outcomes = (calls : List Call) → log ≡ Some calls → (calls' : List Call) × (log' ≡ Some calls')
-    × ((i : ℕ) (t : Task) (r : Outcome) → slice_get tasks i ≡ Some t → slice_get outcomes i ≡ Some r → OutcomeCaused awaited (course calls order notes) i calls' wire (as_sent ids tasks order i t) r)
+-- jobs draw these ids, and new records get this moment.
+abbrev pub AllCaused : Supply → Awaited → LogTold → LogTold → ℤ → List Task → List ℕ → List Turned → List Outcome → Type 0
+AllCaused supply awaited log log' wire tasks order notes outcomes = (calls : List Call) → log ≡ Some calls → (calls' : List Call) × (log' ≡ Some calls')
+    × ((i : ℕ) (t : Task) (r : Outcome) → slice_get tasks i ≡ Some t → slice_get outcomes i ≡ Some r → OutcomeCaused awaited (course calls order notes) i calls' wire (supply_of supply tasks order i) (as_sent supply.ids tasks order i t) r)
 
 -- The call of this ticket was sent in a turn of a job whose newest turn pended by its note, and the job waits for no other, but where a ticket was out before
 -- for the same call.

@@ -1,16 +1,17 @@
--- Which ids the inserts and puts of a run draw, and what inserts send with them.
-use Rattle.std.specs.Prelude.{◌≡◌, ◌+◌, ℕ, Bool, true, false, cond, nat_eq, List, [], ◌∷◌, length, Option, Some, None, slice_get}
+-- Which ids the inserts and puts of a run draw, and what jobs send with them.
+use Rattle.std.specs.Prelude.{◌≡◌, ◌+◌, ℕ, ℤ, Bool, true, false, cond, nat_eq, List, [], ◌∷◌, length, Option, Some, None, slice_get}
 use Rattle.mg_bson.specs.Tree.{Fields}
 use Rattle.mg_ops.specs.Drawn.{AreLater, lacking, with_ids}
 use Rattle.mg_script.specs.Plan as plan
 use Rattle.mg_script.specs.Plan.{Task}
 use Rattle.mg_players.specs.Playing.{HasIds}
-use Rattle.mg_players.specs.Puts.{PutHasIds, PutTask, chunks_in, writes}
+use Rattle.mg_players.specs.Puts.{IsMoment, PutHasIds, PutTask, Supply, chunks_in, writes}
 use Rattle.mg_players.specs.declared.insert.InsertPlayer.{InsertPlayer}
 use Rattle.mg_players.specs.declared.insert.InsertStage.{InsertStage}
 use Rattle.mg_players.specs.declared.insert.InsertStage.TheVariants as inserts
 use Rattle.mg_players.specs.declared.player.Player.{Player}
 use Rattle.mg_players.specs.declared.player.Player.TheVariants as player
+use Rattle.mg_players.specs.declared.put.PutPlayer.{PutPlayer}
 use Rattle.mg_players.specs.declared.put.PutStage.{PutStage}
 use Rattle.mg_players.specs.declared.put.PutStage.TheVariants as puts
 
@@ -65,6 +66,18 @@ sent_documents (plan.get db bucket id read) = []
 abbrev pub as_sent : (ℕ → List ℕ) → List Task → List ℕ → ℕ → Task → Task
 as_sent ids tasks order i t = sent_from ids (first_id tasks order i) t
 
+-- a run whose source gives these ids, and whose new records get this moment
+abbrev pub supplied : (ℕ → List ℕ) → ℤ → Supply
+supplied ids moment = record { ids = ids; moment = Some moment }
+
+-- what is left of what a run supplies, from the id of this number on
+abbrev pub supply_from : Supply → ℕ → Supply
+supply_from supply n = record { ids = λ k. supply.ids (n + k); moment = supply.moment }
+
+-- what job i is supplied with
+abbrev pub supply_of : Supply → List Task → List ℕ → ℕ → Supply
+supply_of supply tasks order i = supply_from supply (first_id tasks order i)
+
 -- ---- jobs
 
 -- how many ids an insert of these documents draws in its next turn
@@ -91,11 +104,19 @@ turn_draws (player.Get job) = 0
 abbrev pub InsertDrawsAs : (ℕ → List ℕ) → InsertPlayer → Task → Type 0
 InsertDrawsAs ids job t = job.stage ≡ inserts.Unsent → sent_documents t ≡ with_ids ids 0 job.documents.now
 
-abbrev pub DrawsAs : (ℕ → List ℕ) → Player → Task → Type 0
-DrawsAs ids (player.Insert job) t = InsertDrawsAs ids job t
-DrawsAs ids (player.Follow job) t = Unit {0}
-DrawsAs ids (player.Put job) t = Unit {0}
-DrawsAs ids (player.Get job) t = Unit {0}
+-- where a put has yet to draw its ids, it is supplied with those of the source
+abbrev pub PutDrawsAs : (ℕ → List ℕ) → PutPlayer → Supply → Type 0
+PutDrawsAs ids job supply = job.stage ≡ puts.Undrawn → (k : ℕ) → supply.ids k ≡ ids k
+
+abbrev pub DrawsAs : (ℕ → List ℕ) → Player → Supply → Task → Type 0
+DrawsAs ids (player.Insert job) supply t = InsertDrawsAs ids job t
+DrawsAs ids (player.Follow job) supply t = Unit {0}
+DrawsAs ids (player.Put job) supply t = PutDrawsAs ids job supply
+DrawsAs ids (player.Get job) supply t = Unit {0}
+
+-- so it is in a turn at this moment
+abbrev pub DrawsAt : (ℕ → List ℕ) → ℤ → Player → Supply → Task → Type 0
+DrawsAt ids moment p supply t = DrawsAs ids p supply t × IsMoment supply.moment moment
 
 -- a job that drew the ids that it needs
 abbrev pub JobHasIds : Player → Type 0

@@ -1,13 +1,24 @@
 -- What the answers of puts and gets say of their files, in every legal history in which the log stands (GridFS specification, "File Upload" and "File Download").
-use Rattle.std.specs.Prelude.{◌≡◌, ◌≢◌, ◌⊎◌, ◌<◌, ◌≤◌, ℕ, List, [], length, Some, slice_get, take}
-use Rattle.mg_bson.specs.Tree.{Tree}
-use Rattle.mg_link.specs.Files.{Bucket, IsWhole, LeavesFile, file_of}
+use Rattle.std.specs.Prelude.{◌≡◌, ◌≢◌, ◌⊎◌, ◌<◌, ◌≤◌, ℕ, suc, List, [], ◌∷◌, length, Some, Ok, slice_get, take}
+use Rattle.mg_bson.specs.Tree.{Fields, Tree}
+use Rattle.mg_link.specs.Commands.{as_database, asked, asks_query}
+use Rattle.mg_link.specs.Files.{Bucket, IsWhole, LeavesFile, chunks_space, file_of, files_space}
 use Rattle.mg_link.specs.History.{IsLegal, Step, state_of}
 use Rattle.mg_link.specs.Log.{Call}
+use Rattle.mg_link.specs.Query.{Query}
 use Rattle.mg_link.specs.Standing.{Stands}
+use Rattle.mg_link.specs.declared.error.Error.{Error}
+use Rattle.mg_link.specs.declared.error.ErrorKind.{ErrorKind}
+use Rattle.mg_link.specs.declared.error.ErrorKind.TheVariants as kind
+use Rattle.mg_link.specs.declared.error.GridFsErrorKind.TheVariants as grid
+use Rattle.mg_link.specs.declared.error.Malformed.TheVariants as malformed
+use Rattle.mg_records.specs.FileRecords.{FileRecord, chunk_count_of, file_record_of}
+use Rattle.mg_records.specs.Readings.{Breaks}
 use Rattle.mg_gridfs.specs.DownloadLaws.{HasRead}
+use Rattle.mg_gridfs.specs.Downloaded.{chunks_query, record_query}
 use Rattle.mg_gridfs.specs.Downloads.{ClientDownload, ended, spoiled}
 use Rattle.mg_players.specs.Causes.{Course, SentIn}
+use Rattle.mg_players.specs.Reading.{Differ}
 
 -- ---- the steps of a job
 
@@ -69,3 +80,67 @@ pub record HasReadAll (calls : List Call) (b : Bucket) (id : Tree) (bytes : List
   pub over : download.doing ≡ ended
   pub none_ahead : download.ahead ≡ []
   pub reads : (history : List Step) → IsLegal history → Stands calls history → HasRead history b id download bytes
+
+-- ---- chunks that are blamed
+
+-- an error says that a chunk is missing, has another length, or is none
+abbrev pub BlamesChunk : ErrorKind → Type 0
+BlamesChunk (kind.GridFs (grid.MissingChunk n)) = Unit {0}
+BlamesChunk (kind.GridFs (grid.WrongSizeChunk n actual expected)) = Unit {0}
+BlamesChunk (kind.InvalidResponse malformed.BadChunk) = Unit {0}
+BlamesChunk _ = ⊥
+
+-- No file of this id was whole before the first step of job i, and touched by nobody up to its last one.
+abbrev pub NeverWhole : Course → ℕ → List Call → Bucket → Tree → Type 0
+NeverWhole c i calls b id = (history : List Step) → IsLegal history → Stands calls history → (first last : ℕ) → IsFirstStepOf c i calls first → IsLastStepOf c i calls last → OthersLeaveFrom c i calls history b id first last
+    → (whole : List ℕ) (size : ℕ) → IsWhole (state_of (take first history)) b id whole size → ⊥
+
+-- the step at this position asks for what a query finds
+pub record AsksAt (history : List Step) (position : ℕ) (q : Query) : Type 0 where
+  pub step : Step
+  pub there : slice_get history position ≡ Some step
+  pub asks : asked step.command ≡ asks_query q
+
+-- In this history job i asked by a step of its own for the record of a file; this one stood first there.
+pub record FoundFirst (c : Course) (i : ℕ) (calls : List Call) (history : List Step) (b : Bucket) (id : Tree) : Type 0 where
+  pub opened : ℕ
+  pub found_so : IsStepOf c i calls opened
+  pub finds : AsksAt history opened (record_query (files_space b) id)
+  pub first : Fields
+  pub more : List Fields
+  pub stood : (file_of (state_of (take (suc opened) history)) b id).records ≡ first ∷ more
+
+-- In this history job i found a record by one step of its own, the first that stood, and listed the chunks of its file by another. Those that stood there are not
+-- what the record says, as the error tells.
+pub record ReadsOther (c : Course) (i : ℕ) (calls : List Call) (history : List Step) (b : Bucket) (id : Tree) (e : Error) : Type 0 where
+  pub found : FoundFirst c i calls history b id
+  pub file : FileRecord
+  pub reads_as : file_record_of found.first ≡ Ok file
+  pub count : ℕ
+  pub counted : chunk_count_of file.length file.chunk_size ≡ Ok count
+  pub fetched : ℕ
+  pub listed_so : IsStepOf c i calls fetched
+  pub lists : AsksAt history fetched (chunks_query (chunks_space b) file.id)
+  pub differ : Differ file count (file_of (state_of (take (suc fetched) history)) b file.id).chunks e
+
+-- so it is in each legal history in which the log stands
+abbrev pub HasReadOther : Course → ℕ → List Call → Bucket → Tree → Error → Type 0
+HasReadOther c i calls b id e = (history : List Step) → IsLegal history → Stands calls history → ReadsOther c i calls history b id e
+
+-- ---- documents that break their grammar
+
+-- an error says that a document which was received breaks its grammar
+abbrev pub SaysBroken : ErrorKind → Type 0
+SaysBroken (kind.InvalidResponse m) = Unit {0}
+SaysBroken _ = ⊥
+
+-- In this history job i found a record by a step of its own, the first that stood. It is none, or has more chunks than are counted; or the chunks of its file are not
+-- what it says, as the error tells.
+pub data FindsBroken (c : Course) (i : ℕ) (calls : List Call) (history : List Step) (b : Bucket) (id : Tree) (e : Error) : Type 0 where
+  no_record : (found : FoundFirst c i calls history b id) → Breaks (file_record_of found.first) e → FindsBroken c i calls history b id e
+  not_counted : (found : FoundFirst c i calls history b id) → (file : FileRecord) → file_record_of found.first ≡ Ok file → Breaks (chunk_count_of file.length file.chunk_size) e → FindsBroken c i calls history b id e
+  other_chunks : ReadsOther c i calls history b id e → FindsBroken c i calls history b id e
+
+-- so it is in each legal history in which the log stands, where the database has a name
+abbrev pub HasFoundBroken : Course → ℕ → List Call → Bucket → Tree → Error → Type 0
+HasFoundBroken c i calls b id e = as_database b.db ≡ Some b.db → (history : List Step) → IsLegal history → Stands calls history → FindsBroken c i calls history b id e

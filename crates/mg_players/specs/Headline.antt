@@ -13,7 +13,7 @@ use Rattle.mg_link.specs.State.{Start, Watch}
 use Rattle.mg_script.specs.Plan.{Task, begin, insert, follow, pieces, put, get}
 use Rattle.mg_players.specs.Causes.{Course, SentIn, course}
 use Rattle.mg_players.specs.Follows.{FollowKnows, Followed, FollowsNothing, HasNothing, IsUnfinished, IsWatch, NeverFollowed, WatchesNothing, events_of, filter_in, token_at}
-use Rattle.mg_players.specs.Files.{GaveFile, HasReadAll, HasReadFront, IsFirstStepOf, IsLastStepOf, OthersLeaveFrom, LeftNoChunk, LeftWhole}
+use Rattle.mg_players.specs.Files.{BlamesChunk, GaveFile, HasFoundBroken, HasReadAll, HasReadFront, HasReadOther, IsFirstStepOf, IsLastStepOf, NeverWhole, OthersLeaveFrom, LeftNoChunk, LeftWhole, SaysBroken}
 use Rattle.mg_gridfs.specs.Storing.{may_leave}
 use Rattle.mg_players.specs.Gets.{GetKnows, GetTask, get_end, get_of, sought}
 use Rattle.mg_players.specs.Kinds.{OfFollow, OfGet, OfPut}
@@ -175,11 +175,12 @@ GaveFront c i calls g bytes = (history : List Step) → IsLegal history → Stan
     → (whole : List ℕ) (size : ℕ) → IsWhole (state_of (take first history)) g.at g.id whole size → (left : List ℕ) × (whole ≡ bytes ++ left)
 
 -- A get that ended well gave the bytes of its file, and one that is unfinished the first of them. Whatever file it was, they are those of all chunks that stood,
--- or begin what the first of them gave.
+-- or begin what the first of them gave. One that failed blames a chunk only where those that stood are not what the record says, and so never where its file was
+-- whole; and it says that a document breaks its grammar only of a record or a chunk that stood.
 abbrev pub GetGave : {A : Type 0} → Course → ℕ → List Call → GetTask → List ℕ → Ended A → Type 0
 GetGave c i calls g bytes ended.Unfinished = GaveFront c i calls g bytes × ((bytes ≡ []) ⊎ HasReadFront calls g.at g.id bytes)
 GetGave c i calls g bytes (ended.Gave x) = GaveFile c i calls g.at g.id bytes × HasReadAll calls g.at g.id bytes
-GetGave c i calls g bytes (ended.Failed e) = Unit {0}
+GetGave c i calls g bytes (ended.Failed e) = (BlamesChunk e.kind → NeverWhole c i calls g.at g.id × HasReadOther c i calls g.at g.id e) × (SaysBroken e.kind → HasFoundBroken c i calls g.at g.id e)
 
 -- a put that ended well left its file whole, and one that failed none of its chunks, unless its error may leave some
 abbrev pub PutLeft : Course → ℕ → List Call → PutTask → Ended ℕ → Type 0

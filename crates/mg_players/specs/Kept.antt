@@ -1,6 +1,7 @@
 -- Ids that are kept.
-use Rattle.std.specs.Prelude.{◌==◌, ℕ, List, [], ◌∷◌, length, Option, Some, None, slice_get, if◌then◌else◌}
+use Rattle.std.specs.Prelude.{◌==◌, ◌+◌, ℕ, List, [], ◌∷◌, length, Option, Some, None, slice_get, if◌then◌else◌}
 use Rattle.mg_bson.specs.declared.object_id.ObjectId.{ObjectId}
+use Rattle.mg_players.specs.declared.drawn.DrawnIds.{DrawnIds}
 
 abbrev pub zeros : List ℕ
 zeros = 0 ∷ 0 ∷ 0 ∷ 0 ∷ 0 ∷ 0 ∷ 0 ∷ 0 ∷ 0 ∷ 0 ∷ 0 ∷ 0 ∷ []
@@ -17,3 +18,7 @@ id_or_zeros (Some id) = as_id id.0
 -- the kept id of this number
 abbrev pub kept_id : List ObjectId → ℕ → List ℕ
 kept_id ids k = id_or_zeros (slice_get ids k)
+
+-- those that are left
+abbrev pub ids_left : DrawnIds → ℕ → List ℕ
+ids_left d k = kept_id d.ids.items (d.next + k)

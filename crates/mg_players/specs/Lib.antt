@@ -5,7 +5,8 @@ pub mod Counts
 pub mod Runs
 pub mod Follows
 pub mod Gets
-pub mod Spares
+pub mod Reading
+pub mod Asking
 pub mod Puts
 pub mod PutFailures
 pub mod PutSends
@@ -13,6 +14,7 @@ pub mod Files
 pub mod Headline
 pub mod Progress
 pub mod Causes
+pub mod Owned
 pub mod Telling
 pub mod Kept
 pub mod Putting

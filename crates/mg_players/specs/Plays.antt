@@ -7,8 +7,9 @@ use Rattle.mg_link.specs.Link.{Awaited, LogTold}
 use Rattle.mg_link.specs.Log.{Call}
 use Rattle.mg_link.specs.Owner.{IsOf, Owner, Passes}
 use Rattle.mg_players.specs.Causes.{sent_since}
-use Rattle.mg_players.specs.Drawing.{sent_from}
+use Rattle.mg_players.specs.Drawing.{sent_from, supply_from}
 use Rattle.mg_players.specs.Follows.{Placing, same_place}
+use Rattle.mg_players.specs.Puts.{IsMoment, Supply}
 use Rattle.mg_players.specs.Sends.{MaySend}
 use Rattle.mg_script.specs.Plan.{Task}
 
@@ -41,13 +42,13 @@ pub record Extends (q q' : Places) (n n' : ℕ) (from upto : ℕ) : Type 0 where
 abbrev pub Knowledge : Type 0 → Type 1
 Knowledge P = Awaited → List Call → P → Owner → Option ℕ → Type 0
 
--- what it tells of what it sent at these places, where its task is sent as this one and the call at this place opened its stream
+-- what it tells of what it sent at these places, where it is supplied so, its task is sent as this one, and the call at this place opened its stream
 abbrev pub Account : Type 0 → Type 1
-Account P = Awaited → List Call → ℤ → Places → Task → P → Option ℕ → Type 0
+Account P = Awaited → List Call → ℤ → Places → Supply → Task → P → Option ℕ → Type 0
 
 -- a job that tells nothing
 abbrev pub says_nothing : {P : Type 0} → Account P
-says_nothing awaited calls wire q t p at = Unit {0}
+says_nothing awaited calls wire q supply t p at = Unit {0}
 
 -- it may be given a turn over a link
 pub record CanGo {P : Type 0} (ticket : P → Option ℕ) (keeps : ℤ → P → Type 0) (awaited : Awaited) (wire : ℤ) (p : P) : Type 0 where
@@ -82,29 +83,34 @@ Turns knows old new log log' p p' next = (calls : List Call) → log ≡ Some ca
     → (calls' : List Call) × (log' ≡ Some calls') × Took knows new calls calls' p' o next at
 
 -- what a job tells behind a turn that led from one log to another, where it told of these places before
-pub record TellsBehind {P : Type 0} (says : Account P) (number : P → ℕ) (awaited : Awaited) (begun calls : List Call) (wire : ℤ) (t : Task) (q : Places) (n : ℕ) (p : P) (at : Option ℕ) : Type 0 where
+pub record TellsBehind {P : Type 0} (says : Account P) (number : P → ℕ) (awaited : Awaited) (begun calls : List Call) (wire : ℤ) (supply : Supply) (t : Task) (q : Places) (n : ℕ) (p : P) (at : Option ℕ) : Type 0 where
   pub longer : length begun ≤ length calls
   pub places : Places
-  pub tells : says awaited calls wire places t p at
+  pub tells : says awaited calls wire places supply t p at
   pub extends : Extends q places n (number p) (length begun) (length calls)
-  pub adds : AddsOnly (MaySend t) begun calls
+  pub adds : AddsOnly (MaySend supply t) begun calls
 
--- whatever a task is sent as
-abbrev pub AnySent : Task → Type 0
-AnySent t = Unit {0}
+-- whatever a job is supplied with, and its task is sent as
+abbrev pub AnySent : Supply → Task → Type 0
+AnySent supply t = Unit {0}
 
--- A turn led a job, which knew what it should, from one state to another: it goes on telling, where its task is sent as one of which this holds.
-abbrev pub TurnTells : {P : Type 0} → (P → Task) → Knowledge P → Account P → (P → ℕ) → (Task → Type 0) → Awaited → Awaited → LogTold → LogTold → ℤ → P → P → Moves → Type 0
-TurnTells does knows says number so old new log log' wire p p' next = (calls calls' : List Call) → log ≡ Some calls → log' ≡ Some calls' → (ids : ℕ → List ℕ) (n : ℕ) → so (sent_from ids n (does p)) → (q : Places) (at at' : Option ℕ)
-    → MovesTo next calls calls' at at' → (o : Owner) → knows old calls p o at → says old calls wire q (sent_from ids n (does p)) p at → TellsBehind says number new calls calls' wire (sent_from ids n (does p)) q (number p) p' at'
+-- new records get this moment
+abbrev pub SentAt : ℤ → Supply → Task → Type 0
+SentAt moment supply t = IsMoment supply.moment moment
 
--- what the first tells, the second tells too, where its task is sent as one of which this holds
-pub record TellsAs {P : Type 0} (does : P → Task) (says : Account P) (number : P → ℕ) (so : Task → Type 0) (p p' : P) : Type 0 where
+-- A turn led a job, which knew what it should, from one state to another: it goes on telling, where this holds of what it is supplied with and of its task as it is sent.
+abbrev pub TurnTells : {P : Type 0} → (P → Task) → Knowledge P → Account P → (P → ℕ) → (Supply → Task → Type 0) → Awaited → Awaited → LogTold → LogTold → ℤ → P → P → Moves → Type 0
+TurnTells does knows says number so old new log log' wire p p' next = (calls calls' : List Call) → log ≡ Some calls → log' ≡ Some calls' → (supply : Supply) (n : ℕ) → so (supply_from supply n) (sent_from supply.ids n (does p)) → (q : Places) (at at' : Option ℕ)
+    → MovesTo next calls calls' at at' → (o : Owner) → knows old calls p o at → says old calls wire q (supply_from supply n) (sent_from supply.ids n (does p)) p at → TellsBehind says number new calls calls' wire (supply_from supply n) (sent_from supply.ids n (does p)) q (number p) p' at'
+
+-- what the first tells, the second tells too, where this holds of what it is supplied with and of its task as it is sent
+pub record TellsAs {P : Type 0} (does : P → Task) (says : Account P) (number : P → ℕ) (so : Supply → Task → Type 0) (p p' : P) : Type 0 where
   pub number_same : number p' ≡ number p
-  pub tells : (awaited : Awaited) (calls : List Call) (wire : ℤ) (q : Places) (ids : ℕ → List ℕ) (n : ℕ) (at : Option ℕ) → so (sent_from ids n (does p)) → says awaited calls wire q (sent_from ids n (does p)) p at → says awaited calls wire q (sent_from ids n (does p)) p' at
+  pub tells : (awaited : Awaited) (calls : List Call) (wire : ℤ) (q : Places) (supply : Supply) (n : ℕ) (at : Option ℕ) → so (supply_from supply n) (sent_from supply.ids n (does p)) → says awaited calls wire q (supply_from supply n) (sent_from supply.ids n (does p)) p at → says awaited calls wire q (supply_from supply n) (sent_from supply.ids n (does p)) p' at
 
--- what a turn does to its job, to the link's tickets, and to what the job knows of its server, and tells where its task is sent as one of which this holds
-pub record Goes {P : Type 0} (ticket : P → Option ℕ) (keeps : ℤ → P → Type 0) (does : P → Task) (knows : Knowledge P) (says : Account P) (number : P → ℕ) (drew : P → Type 0) (so : Task → Type 0) (old new : Awaited) (log log' : LogTold) (wire : ℤ) (p p' : P) : Type 0 where
+-- what a turn does to its job, to the link's tickets, and to what the job knows of its server, and tells where this holds of what it is supplied with and of its
+-- task as it is sent
+pub record Goes {P : Type 0} (ticket : P → Option ℕ) (keeps : ℤ → P → Type 0) (does : P → Task) (knows : Knowledge P) (says : Account P) (number : P → ℕ) (drew : P → Type 0) (so : Supply → Task → Type 0) (old new : Awaited) (log log' : LogTold) (wire : ℤ) (p p' : P) : Type 0 where
   pub tickets : Tickets old new (ticket p) (ticket p')
   pub holds : keeps wire p'
   pub next : Moves
@@ -113,8 +119,9 @@ pub record Goes {P : Type 0} (ticket : P → Option ℕ) (keeps : ℤ → P → 
   pub task : does p' ≡ does p
   pub has : drew p → drew p'
 
--- A job got what it needs for a turn. Nothing was sent, and one that had no ids drew them from a source, so that its task is sent as one of which this holds.
-pub record GetsReady {P : Type 0} (ticket_in : P → Option ℕ) (keeps : ℤ → P → Type 0) (does : P → Task) (plays : Knowledge P) (says : Account P) (number : P → ℕ) (comes ready : ℕ → P → ℕ → Bool → Type 0) (drew : P → Type 0) (so : Task → Type 0) (p q : P) : Type 0 where
+-- A job got what it needs for a turn. Nothing was sent, and one that had no ids drew them from a source, so that this holds of what it is supplied with and of its
+-- task as it is sent.
+pub record GetsReady {P : Type 0} (ticket_in : P → Option ℕ) (keeps : ℤ → P → Type 0) (does : P → Task) (plays : Knowledge P) (says : Account P) (number : P → ℕ) (comes ready : ℕ → P → ℕ → Bool → Type 0) (drew : P → Type 0) (so : Supply → Task → Type 0) (p q : P) : Type 0 where
   pub ticket : ticket_in q ≡ ticket_in p
   pub holds : (wire : ℤ) → keeps wire p → keeps wire q
   pub knows : (awaited : Awaited) (calls : List Call) (o : Owner) (at : Option ℕ) → plays awaited calls p o at → plays awaited calls q o at

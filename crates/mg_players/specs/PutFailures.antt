@@ -2,11 +2,12 @@
 use Rattle.std.specs.Prelude.{◌≡◌, ◌≢◌, ◌⊎◌, ◌<◌, ◌≤◌, ◌+◌, ◌*◌, ◌^◌, ℕ, pos, false, true, List, [], ◌∷◌, ◌++◌, length, Option, None, Some, Ok, unwrap_or}
 use Rattle.mg_bson.specs.Raw.{fields}
 use Rattle.mg_bson.specs.Tree.{Fields}
-use Rattle.mg_link.specs.Calls.{HeardAt, HeardBy, Past, RequestFails}
+use Rattle.mg_link.specs.Calls.{Flies, Grows, HeardAt, HeardBy, IsOwn, Past, RequestFails, past_of}
 use Rattle.mg_link.specs.Errors.{command_code, plain}
 use Rattle.mg_link.specs.Exec.{IsSuccess, Sending, ticket_of}
 use Rattle.mg_link.specs.Link.{Awaited}
 use Rattle.mg_link.specs.Log.{reply}
+use Rattle.mg_link.specs.Owner.{IsOf}
 use Rattle.mg_link.specs.Session.{Session}
 use Rattle.mg_link.specs.declared.error.Error.{Error}
 use Rattle.mg_link.specs.declared.error.ErrorKind.{ErrorKind}
@@ -119,10 +120,34 @@ pub record ReadsList (awaited : Awaited) (past : Past) (b : ClientBucket) (d : D
   pub within : newest of_list.place of_list.replies < length past.calls
   pub waits : (sending : Sending) (ticket place : ℕ) → d.cursor.doing ≡ client.asks sending → ticket_of sending ≡ Some ticket → awaited ticket ≡ Some place → newest of_list.place of_list.replies < place
 
+-- ---- the creation before a list
+
+-- the call heard what came of the creation of a collection
+pub record HeardCreation (past : Past) (b : ClientBucket) (at : Place) : Type 0 where
+  pub place : ℕ
+  pub bytes : List ℕ
+  pub heard : HeardAt past place (fields_in (creation_lines b at)) (reply bytes)
+
+-- so it is by those commands of the call alone that stand in the log behind this place
+pub record HoldsBehind (place : ℕ) (past : Past) (Says : Past → Type 0) : Type 0 where
+  pub later : Past
+  pub grows : Grows later past
+  pub behind : (p : ℕ) → IsOwn later p → place < p
+  pub says : Says later
+
+-- What the call knows of a list that it asks for: the creation of the collection was heard, and what is on its way was sent behind that.
+pub record AsksBehind (awaited : Awaited) (past : Past) (b : ClientBucket) (at : Place) (sending : Sending) : Type 0 where
+  pub created : HeardCreation past b at
+  pub near : List ℕ
+  pub own : (p : ℕ) → IsOf near p → IsOwn past p
+  pub within : (p : ℕ) → IsOf near p → p < length past.calls
+  pub behind : (p : ℕ) → IsOf near p → created.place < p
+  pub flies : Flies awaited (past_of near (length past.calls) past.calls past.wire) (fields_in (listing_lines b at)) sending.stage
+
 abbrev pub CheckReads : Awaited → Past → ClientBucket → ClientCheck → Type 0
 CheckReads awaited past b (finds sending) = Unit {0}
 CheckReads awaited past b (creates at sending) = Unit {0}
-CheckReads awaited past b (lists at sending) = Unit {0}
+CheckReads awaited past b (lists at sending) = AsksBehind awaited past b at sending
 CheckReads awaited past b (reads at cursor found count) = ReadsList awaited past b cursor count
 CheckReads awaited past b (indexes at sending) = Unit {0}
 
@@ -135,7 +160,8 @@ pub data PutCheckFails (past : Past) (b : ClientBucket) (e : Error) : Type 0 whe
   by_find : RequestFails past (fields_in (any_lines b)) true TellsNoCursor e → PutCheckFails past b e
   -- that a collection is there is no failure
   by_creation : (at : Place) → RequestFails past (fields_in (creation_lines b at)) false ListsFailure e → command_code e.kind ≢ Some namespace_exists → PutCheckFails past b e
-  by_listing : (at : Place) → RequestFails past (fields_in (listing_lines b at)) true TellsNoCursor e → PutCheckFails past b e
+  -- the list was asked for behind the creation of the collection
+  by_listing : (at : Place) (created : HeardCreation past b at) → HoldsBehind created.place past (λ p. RequestFails p (fields_in (listing_lines b at)) true TellsNoCursor e) → PutCheckFails past b e
   by_index : (at : Place) → RequestFails past (fields_in (index_lines b at)) false ListsFailure e → PutCheckFails past b e
   -- a getMore of the list is not built, or fails
   not_asked : (c : ClientCursor) → IsOfList past b c → CannotAsk c None e → PutCheckFails past b e

@@ -6,27 +6,24 @@ use Rattle.mg_link.specs.Exec.{Stage, unsent, first, second}
 use Rattle.mg_link.specs.Files.{chunked}
 use Rattle.mg_link.specs.Namespace.{Space}
 use Rattle.mg_options.specs.Fields.{Line, fields_in}
-use Rattle.mg_ops.specs.Cursors.{Manner, next_command}
+use Rattle.mg_ops.specs.Cursors.{next_command}
 use Rattle.mg_gridfs.specs.Buckets.{ClientBucket}
 use Rattle.mg_gridfs.specs.Causes.{IsOfCheck}
 use Rattle.mg_gridfs.specs.Checks.{ClientCheck, creates, finds, indexes, lists, reads}
 use Rattle.mg_gridfs.specs.Commands.{chunk_documents, chunks_lines, deletion_lines, record_document, record_lines}
 use Rattle.mg_gridfs.specs.Uploads as uploads
 use Rattle.mg_gridfs.specs.Uploads.{Doing, Phase, begins, busy, closed, ends, fills, idle, lands, lasts, rests, undoes}
-use Rattle.mg_players.specs.Puts.{PutTask, joined, put_bucket, total}
+use Rattle.mg_players.specs.Gets.{no_manner}
+use Rattle.mg_players.specs.Puts.{ComeNext, IsMoment, PutTask, Supply, joined, put_bucket, total}
 use Rattle.mg_script.specs.declared.outcome.Ended.{Ended}
 use Rattle.mg_script.specs.declared.outcome.Ended.TheVariants as ended
 
 -- ---- the check of the indexes
 
--- a list of indexes is read on without options
-abbrev pub plain_manner : Manner
-plain_manner = record { size = None; wait = None; comment = None }
-
--- a command of the check of a bucket's indexes, or one that reads a list of them on
+-- a command of the check of a bucket's indexes, or one that reads a list of them on, without options
 pub data IsCheckCommand (b : ClientBucket) (command : Fields) : Type 0 where
   of_check : (lines : List Line) → IsOfCheck b lines → command ≡ fields_in lines → IsCheckCommand b command
-  reads_on : (id : ℤ) (space : Space) → command ≡ next_command id space plain_manner → IsCheckCommand b command
+  reads_on : (id : ℤ) (space : Space) → command ≡ next_command id space no_manner → IsCheckCommand b command
 
 abbrev pub AreOfCheck : ClientBucket → List Fields → Type 0
 AreOfCheck b [] = Unit {0}
@@ -38,8 +35,8 @@ AreOfCheck b (command ∷ commands) = IsCheckCommand b command × AreOfCheck b c
 abbrev pub file_chunks : PutTask → List (List ℕ)
 file_chunks t = chunked t.chunk (joined t.pieces)
 
--- the command inserts the chunks of the file from one on up to another, at least one, each with its own number
-pub record InsertsChunks (t : PutTask) (from upto : ℕ) (command : Fields) : Type 0 where
+-- the command inserts the chunks of the file from one on up to another, at least one, each with its own number and with the id of that number
+pub record InsertsChunks (supply : Supply) (t : PutTask) (from upto : ℕ) (command : Fields) : Type 0 where
   pub front : List (List ℕ)
   pub piece : List (List ℕ)
   pub rest : List (List ℕ)
@@ -48,12 +45,13 @@ pub record InsertsChunks (t : PutTask) (from upto : ℕ) (command : Fields) : Ty
   pub some : 0 < length piece
   pub next : from + length piece ≡ upto
   pub ids : ℕ → List ℕ
+  pub drawn : ComeNext supply t ids from
   pub command_is : command ≡ fields_in (chunks_lines (put_bucket t) (chunk_documents ids 0 t.id from piece))
 
 -- these commands insert the chunks from one on up to another, piece behind piece, and each piece once
-abbrev pub ChunkPieces : PutTask → ℕ → List Fields → ℕ → Type 0
-ChunkPieces t from [] upto = upto ≡ from
-ChunkPieces t from (command ∷ commands) upto = (between : ℕ) × InsertsChunks t from between command × ChunkPieces t between commands upto
+abbrev pub ChunkPieces : Supply → PutTask → ℕ → List Fields → ℕ → Type 0
+ChunkPieces supply t from [] upto = upto ≡ from
+ChunkPieces supply t from (command ∷ commands) upto = (between : ℕ) × InsertsChunks supply t from between command × ChunkPieces supply t between commands upto
 
 -- ---- the record, and the removal
 
@@ -78,25 +76,27 @@ removal_if t true = chunks_removal t ∷ []
 -- ---- all commands
 
 -- These are all commands that a put sent: first the check of its bucket's indexes, which comes before the chunks of a file that has a full one; then its chunks up
--- to this number, from the first one on, each once; then its record with this moment, once, and only behind all chunks; then the removal of its chunks, once.
-pub record PutSends (t : PutTask) (commands : List Fields) (upto : ℕ) (moment : Option ℤ) (removed : Bool) : Type 0 where
+-- to this number, from the first one on, each once and with its own id; then its record with this moment, which is that of the run, once, and only behind all
+-- chunks; then the removal of its chunks, once.
+pub record PutSends (supply : Supply) (t : PutTask) (commands : List Fields) (upto : ℕ) (moment : Option ℤ) (removed : Bool) : Type 0 where
   pub check : List Fields
   pub chunks : List Fields
   pub parts : commands ≡ check ++ (chunks ++ (record_at t moment ++ removal_if t removed))
   pub of_check : AreOfCheck (put_bucket t) check
-  pub pieces : ChunkPieces t 0 chunks upto
+  pub pieces : ChunkPieces supply t 0 chunks upto
   pub checked : 0 < upto → t.chunk ≤ total t.pieces → check ≢ []
   pub recorded : (m : ℤ) → moment ≡ Some m → upto ≡ length (file_chunks t)
+  pub timely : (m : ℤ) → moment ≡ Some m → IsMoment supply.moment m
 
 -- some of its chunks, and its record or not
-abbrev pub SentSome : PutTask → List Fields → Bool → Type 0
-SentSome t commands removed = (upto : ℕ) × (moment : Option ℤ) × PutSends t commands upto moment removed
+abbrev pub SentSome : Supply → PutTask → List Fields → Bool → Type 0
+SentSome supply t commands removed = (upto : ℕ) × (moment : Option ℤ) × PutSends supply t commands upto moment removed
 
 -- Where it ended well it sent all chunks and its record, and removed nothing.
-abbrev pub PutEndsSent : PutTask → List Fields → Ended ℕ → Type 0
-PutEndsSent t commands ended.Unfinished = (removed : Bool) × SentSome t commands removed
-PutEndsSent t commands (ended.Gave n) = (moment : ℤ) × PutSends t commands (length (file_chunks t)) (Some moment) false
-PutEndsSent t commands (ended.Failed e) = (removed : Bool) × SentSome t commands removed
+abbrev pub PutEndsSent : Supply → PutTask → List Fields → Ended ℕ → Type 0
+PutEndsSent supply t commands ended.Unfinished = (removed : Bool) × SentSome supply t commands removed
+PutEndsSent supply t commands (ended.Gave n) = (moment : ℤ) × PutSends supply t commands (length (file_chunks t)) (Some moment) false
+PutEndsSent supply t commands (ended.Failed e) = (removed : Bool) × SentSome supply t commands removed
 
 -- ---- while it goes on
 
@@ -107,18 +107,18 @@ Around (first ticket) Before Behind = Behind
 Around (second ticket) Before Behind = Behind
 
 -- its check and its chunks up to this number; where it has not checked it sent nothing
-pub record SentChunks (t : PutTask) (commands : List Fields) (checked : Bool) (upto : ℕ) : Type 0 where
+pub record SentChunks (supply : Supply) (t : PutTask) (commands : List Fields) (checked : Bool) (upto : ℕ) : Type 0 where
   pub check : List Fields
   pub chunks : List Fields
   pub parts : commands ≡ check ++ chunks
   pub of_check : AreOfCheck (put_bucket t) check
-  pub pieces : ChunkPieces t 0 chunks upto
+  pub pieces : ChunkPieces supply t 0 chunks upto
   pub some : checked ≡ true → check ≢ []
   pub nothing : checked ≡ false → commands ≡ []
 
 -- all its chunks, and its record or not
-abbrev pub SentAll : PutTask → List Fields → Option ℤ → Type 0
-SentAll t commands moment = PutSends t commands (length (file_chunks t)) moment false
+abbrev pub SentAll : Supply → PutTask → List Fields → Option ℤ → Type 0
+SentAll supply t commands moment = PutSends supply t commands (length (file_chunks t)) moment false
 
 -- it has checked, or has no full chunk
 abbrev pub NeedsNoCheck : PutTask → Bool → Type 0
@@ -133,21 +133,21 @@ HasBegun commands (reads at cursor found count) = commands ≢ []
 HasBegun commands (indexes at sending) = commands ≢ []
 
 -- what it sent, by how far a call has come, where it checked or not and so many of its chunks are inserted: a put gives up no call
-abbrev pub PhaseSent : PutTask → List Fields → Bool → ℕ → Phase → Type 0
-PhaseSent t commands checked sent begins = commands ≡ []
-PhaseSent t commands checked sent (uploads.checks check) = AreOfCheck (put_bucket t) commands × HasBegun commands check
-PhaseSent t commands checked sent fills = SentChunks t commands true sent
-PhaseSent t commands checked sent (uploads.inserts sending count) = InsertsChunks t sent (sent + count) (fields sending.command) × Around sending.stage (SentChunks t commands true sent) (SentChunks t commands true (sent + count))
-PhaseSent t commands checked sent (rests moment) = SentChunks t commands checked sent
-PhaseSent t commands checked sent (lasts sending ending) = InsertsChunks t sent (length (file_chunks t)) (fields sending.command) × Around sending.stage (SentChunks t commands checked sent × NeedsNoCheck t checked) (SentAll t commands None)
-PhaseSent t commands checked sent (ends ending) = SentAll t commands None
-PhaseSent t commands checked sent (uploads.records sending ending) = (fields sending.command ≡ record_insert t ending.moment) × Around sending.stage (SentAll t commands None) (SentAll t commands (Some ending.moment))
-PhaseSent t commands checked sent (lands flight error) = ⊥
-PhaseSent t commands checked sent (undoes error) = SentSome t commands false
-PhaseSent t commands checked sent (uploads.removes sending error) = (fields sending.command ≡ chunks_removal t) × Around sending.stage (SentSome t commands false) (SentSome t commands true)
+abbrev pub PhaseSent : Supply → PutTask → List Fields → Bool → ℕ → Phase → Type 0
+PhaseSent supply t commands checked sent begins = commands ≡ []
+PhaseSent supply t commands checked sent (uploads.checks check) = AreOfCheck (put_bucket t) commands × HasBegun commands check
+PhaseSent supply t commands checked sent fills = SentChunks supply t commands true sent
+PhaseSent supply t commands checked sent (uploads.inserts sending count) = InsertsChunks supply t sent (sent + count) (fields sending.command) × Around sending.stage (SentChunks supply t commands true sent) (SentChunks supply t commands true (sent + count))
+PhaseSent supply t commands checked sent (rests moment) = SentChunks supply t commands checked sent
+PhaseSent supply t commands checked sent (lasts sending ending) = InsertsChunks supply t sent (length (file_chunks t)) (fields sending.command) × Around sending.stage (SentChunks supply t commands checked sent × NeedsNoCheck t checked) (SentAll supply t commands None)
+PhaseSent supply t commands checked sent (ends ending) = SentAll supply t commands None
+PhaseSent supply t commands checked sent (uploads.records sending ending) = (fields sending.command ≡ record_insert t ending.moment) × Around sending.stage (SentAll supply t commands None) (SentAll supply t commands (Some ending.moment))
+PhaseSent supply t commands checked sent (lands flight error) = ⊥
+PhaseSent supply t commands checked sent (undoes error) = SentSome supply t commands false
+PhaseSent supply t commands checked sent (uploads.removes sending error) = (fields sending.command ≡ chunks_removal t) × Around sending.stage (SentSome supply t commands false) (SentSome supply t commands true)
 
 -- what it sent by what its upload is doing
-abbrev pub DoingSent : PutTask → List Fields → Bool → ℕ → Doing → Type 0
-DoingSent t commands checked sent idle = SentChunks t commands checked sent
-DoingSent t commands checked sent (busy call phase) = PhaseSent t commands checked sent phase
-DoingSent t commands checked sent closed = Unit {0}
+abbrev pub DoingSent : Supply → PutTask → List Fields → Bool → ℕ → Doing → Type 0
+DoingSent supply t commands checked sent idle = SentChunks supply t commands checked sent
+DoingSent supply t commands checked sent (busy call phase) = PhaseSent supply t commands checked sent phase
+DoingSent supply t commands checked sent closed = Unit {0}

@@ -1,5 +1,5 @@
 -- A put as its task says it, and how far it has come.
-use Rattle.std.specs.Prelude.{◌≡◌, ◌⊎◌, ◌≤◌, ◌+◌, ◌*◌, ◌^◌, ◌++◌, ℕ, Bool, true, false, List, [], ◌∷◌, length, take, Option, None, Ok, Err, Result, string_bytes, if◌then◌else◌, ltb}
+use Rattle.std.specs.Prelude.{◌≡◌, ◌⊎◌, ◌<◌, ◌≤◌, ◌+◌, ◌*◌, ◌^◌, ◌++◌, ℕ, ℤ, Bool, true, false, List, [], ◌∷◌, length, take, Option, Some, None, Ok, Err, Result, string_bytes, if◌then◌else◌, ltb}
 use Rattle.mg_bson.specs.Tree.{Tree}
 use Rattle.mg_bson.specs.View.{tree}
 use Rattle.mg_link.specs.Errors.{plain}
@@ -21,6 +21,7 @@ use Rattle.mg_gridfs.specs.declared.stream.GridFsUploadStream.{GridFsUploadStrea
 use Rattle.mg_script.specs.Plan as plan
 use Rattle.mg_script.specs.declared.outcome.Ended.{Ended}
 use Rattle.mg_script.specs.declared.outcome.Ended.TheVariants as ended
+use Rattle.mg_players.specs.Kept.{ids_left}
 use Rattle.mg_players.specs.declared.put.Beginning.{Beginning}
 use Rattle.mg_players.specs.declared.put.PutPlayer.{PutPlayer}
 use Rattle.mg_players.specs.declared.put.PutStage.{PutStage}
@@ -74,6 +75,22 @@ where_counted (Err e) = 0
 -- how many chunks the pieces fill, the last of them with what is left; none where 64 bits do not count their bytes, which are more than a file has
 abbrev pub chunks_in : ℕ → List (List ℕ) → ℕ
 chunks_in chunk pieces = if ltb (total pieces) (2 ^ 64) then where_counted (chunk_count_of (total pieces) chunk) else 0
+
+-- ---- what it is supplied with
+
+-- What a run supplies a job with: the ids that the job draws, in their order, and the moment that new records get, where that is said.
+pub record Supply : Type 0 where
+  pub ids : ℕ → List ℕ
+  pub moment : Option ℤ
+
+-- it is this moment, where one is said
+abbrev pub IsMoment : Option ℤ → ℤ → Type 0
+IsMoment None m = Unit {0}
+IsMoment (Some moment) m = m ≡ moment
+
+-- a source gives next the ids of the chunks from this number on: each chunk has the id of its own number among those that the put drew
+abbrev pub ComeNext : Supply → PutTask → (ℕ → List ℕ) → ℕ → Type 0
+ComeNext supply t ids from = (k : ℕ) → from + k < chunks_in t.chunk t.pieces → ids k ≡ supply.ids (from + k)
 
 -- ---- how far it has come
 
@@ -137,10 +154,32 @@ PutHolds job = PutStageHolds job.stage job.done (length (plan.pieces job.what.pi
 abbrev pub IsSamePut : PutPlayer → PutPlayer → Type 0
 IsSamePut job job' = (job'.what ≡ job.what) × (job'.done ≡ job.done) × (PutHasIds job.stage → PutHasIds job'.stage)
 
--- it knows its length; or memory ran out for the ids of its chunks
-abbrev pub BegunFor : PutTask → Result Beginning Error → Type 0
-BegunFor t (Ok begun) = begun.length ≡ total t.pieces
-BegunFor t (Err e) = e ≡ plain kind.OutOfMemory
+-- it knows its length, and has the ids of its chunks; or memory ran out for them
+abbrev pub BegunFor : Supply → PutTask → Result Beginning Error → Type 0
+BegunFor supply t (Ok begun) = (begun.length ≡ total t.pieces) × ComeNext supply t (ids_left begun.ids) 0
+BegunFor supply t (Err e) = e ≡ plain kind.OutOfMemory
+
+-- ---- its ids and its moment
+
+-- what a call of its upload has of them, by how far it has come, where so many full chunks are inserted: the ids of the chunks that no command holds yet, from a
+-- source that gives these, and the moment of its record; on the way back it needs neither
+abbrev pub PhaseSupplied : Supply → PutTask → (ℕ → List ℕ) → ℕ → Phase → Type 0
+PhaseSupplied supply t ids sent begins = ComeNext supply t ids sent
+PhaseSupplied supply t ids sent (checks check) = ComeNext supply t ids sent
+PhaseSupplied supply t ids sent fills = ComeNext supply t ids sent
+PhaseSupplied supply t ids sent (inserts sending count) = ComeNext supply t ids (sent + count)
+PhaseSupplied supply t ids sent (rests moment) = ComeNext supply t ids sent × IsMoment supply.moment moment
+PhaseSupplied supply t ids sent (lasts sending ending) = IsMoment supply.moment ending.moment
+PhaseSupplied supply t ids sent (ends ending) = IsMoment supply.moment ending.moment
+PhaseSupplied supply t ids sent (records sending ending) = IsMoment supply.moment ending.moment
+PhaseSupplied supply t ids sent (lands flight error) = Unit {0}
+PhaseSupplied supply t ids sent (undoes error) = Unit {0}
+PhaseSupplied supply t ids sent (removes sending error) = Unit {0}
+
+abbrev pub DoingSupplied : Supply → PutTask → (ℕ → List ℕ) → ℕ → Doing → Type 0
+DoingSupplied supply t ids sent idle = ComeNext supply t ids sent
+DoingSupplied supply t ids sent (busy call phase) = PhaseSupplied supply t ids sent phase
+DoingSupplied supply t ids sent closed = Unit {0}
 
 -- ---- its bytes
 

@@ -1,5 +1,5 @@
 -- What getting ready, opening and a turn do to a put.
-use Rattle.std.specs.Prelude.{◌≡◌, ◌+◌, ◌<◌, ℕ, ℤ, List, Result, Ok, Err}
+use Rattle.std.specs.Prelude.{◌≡◌, ◌<◌, ℕ, ℤ, List, Result, Ok, Err}
 use Rattle.mg_link.specs.Acts.{Tickets}
 use Rattle.mg_link.specs.Errors.{plain}
 use Rattle.mg_link.specs.Link.{Awaited, LogTold}
@@ -8,8 +8,8 @@ use Rattle.mg_link.specs.declared.error.ErrorKind.TheVariants as kind
 use Rattle.mg_gridfs.specs.Uploads.{fresh_upload}
 use Rattle.mg_gridfs.specs.UploadView.{IsUpload, upload_of}
 use Rattle.mg_players.specs.Headline.{PutPlays, put_task}
-use Rattle.mg_players.specs.Kept.{kept_id}
-use Rattle.mg_players.specs.Plays.{AnySent, TurnTells, Turns, no_move}
+use Rattle.mg_players.specs.Kept.{ids_left}
+use Rattle.mg_players.specs.Plays.{SentAt, TurnTells, Turns, no_move}
 use Rattle.mg_players.specs.Puts.{CannotOpen, NamesFiles, PutHasIds, PutHolds, PutTask, chunks_in, put_aim, put_ticket, total}
 use Rattle.mg_players.specs.Telling.{PutSays, put_number}
 use Rattle.mg_players.specs.declared.put.Beginning.{Beginning}
@@ -27,7 +27,7 @@ HasFailed by (ended.Failed e) = by e
 
 -- it has the next ids of a source that gave these, one for each of its chunks, and knows its length; or memory ran out
 abbrev pub Drew : (ℕ → List ℕ) → PutTask → Result Beginning Error → Type 0
-Drew ids t (Ok begun) = (begun.length ≡ total t.pieces) × ((k : ℕ) → k < chunks_in t.chunk t.pieces → kept_id begun.ids.ids.items (begun.ids.next + k) ≡ ids k)
+Drew ids t (Ok begun) = (begun.length ≡ total t.pieces) × ((k : ℕ) → k < chunks_in t.chunk t.pieces → ids_left begun.ids k ≡ ids k)
 Drew ids t (Err e) = e ≡ plain kind.OutOfMemory
 
 abbrev pub HasDrawn : (ℕ → List ℕ) → PutTask → PutStage → Type 0
@@ -43,23 +43,23 @@ DrewFor ids t (puts.Begins begun) stage' = stage' ≡ puts.Begins begun
 DrewFor ids t (puts.Goes going) stage' = stage' ≡ puts.Goes going
 DrewFor ids t (puts.Ended end) stage' = stage' ≡ puts.Ended end
 
--- its upload is open, whose names may be and which has taken nothing; or it was not opened
-abbrev pub Opens : PutTask → ℕ → PutStage → Type 0
-Opens t size puts.Undrawn = ⊥
-Opens t size (puts.Begins begun) = ⊥
-Opens t size (puts.Goes going) = NamesFiles t × (upload_of going.upload ≡ fresh_upload (put_aim t)) × IsUpload going.upload × (going.length ≡ size)
-Opens t size (puts.Ended end) = HasFailed (CannotOpen t) end
+-- its upload is open, whose names may be and which has taken nothing, and its ids are those that were drawn; or it was not opened
+abbrev pub Opens : PutTask → Beginning → PutStage → Type 0
+Opens t begun puts.Undrawn = ⊥
+Opens t begun (puts.Begins other) = ⊥
+Opens t begun (puts.Goes going) = NamesFiles t × (upload_of going.upload ≡ fresh_upload (put_aim t)) × IsUpload going.upload × (going.length ≡ begun.length) × ((k : ℕ) → ids_left going.ids k ≡ ids_left begun.ids k)
+Opens t begun (puts.Ended end) = HasFailed (CannotOpen t) end
 
 -- so it opens, where there was a place for its ids
 abbrev pub OpensFrom : PutTask → Result Beginning Error → PutStage → Type 0
-OpensFrom t (Ok begun) stage' = Opens t begun.length stage'
+OpensFrom t (Ok begun) stage' = Opens t begun stage'
 OpensFrom t (Err e) stage' = stage' ≡ puts.Ended (ended.Failed e)
 
--- a turn of a put whose upload is open
-pub record PutTurns (old new : Awaited) (log log' : LogTold) (wire : ℤ) (p p' : PutPlayer) : Type 0 where
+-- a turn of a put whose upload is open, at this moment
+pub record PutTurns (old new : Awaited) (log log' : LogTold) (wire : ℤ) (moment : ℤ) (p p' : PutPlayer) : Type 0 where
   pub same : p'.what ≡ p.what
   pub tickets : Tickets old new (put_ticket p) (put_ticket p')
   pub holds : PutHolds p'
   pub has : PutHasIds p'.stage
   pub turned : Turns PutPlays old new log log' p p' no_move
-  pub told : TurnTells put_task PutPlays PutSays (λ p. put_number p.done p.stage) AnySent old new log log' wire p p' no_move
+  pub told : TurnTells put_task PutPlays PutSays (λ p. put_number p.done p.stage) (SentAt moment) old new log log' wire p p' no_move

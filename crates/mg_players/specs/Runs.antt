@@ -1,11 +1,11 @@
 -- Jobs that share a link, turn by turn.
-use Rattle.std.specs.Prelude.{◌≡◌, ◌⊎◌, ℕ, ℤ, Bool, true, false, Option, Some, None, IsSome, List, length, slice_get}
+use Rattle.std.specs.Prelude.{◌≡◌, ◌⊎◌, ℕ, ℤ, Bool, false, Some, None, IsSome, List, length, slice_get}
 use Rattle.mg_link.specs.Link.{Awaited, LogTold}
 use Rattle.mg_players.specs.Gets.{GetHolds, get_ended}
 use Rattle.mg_players.specs.Headline.{Plays, task_of}
 use Rattle.mg_players.specs.Plays as words
 use Rattle.mg_players.specs.Playing.{HasRoom, IsSameFollow, StageHolds, follow_ended, insert_ended, job_ticket}
-use Rattle.mg_players.specs.Puts.{PutHolds, put_ended}
+use Rattle.mg_players.specs.Puts.{PutHolds, Supply, put_ended}
 use Rattle.mg_ops.specs.Drawn.{AreLater}
 use Rattle.mg_players.specs.Drawing.{JobHasIds, turn_draws}
 use Rattle.mg_players.specs.Telling.{JobTells, number_of}
@@ -52,7 +52,7 @@ CanGo = words.CanGo job_ticket JobHolds
 -- ---- a turn
 
 -- what a turn does to its job
-abbrev pub Goes : (Task → Type 0) → Awaited → Awaited → LogTold → LogTold → ℤ → Player → Player → Type 0
+abbrev pub Goes : (Supply → Task → Type 0) → Awaited → Awaited → LogTold → LogTold → ℤ → Player → Player → Type 0
 Goes = words.Goes job_ticket JobHolds task_of Plays JobTells number_of JobHasIds
 
 -- a turn drew what its job needed from a source that gave these ids

@@ -20,7 +20,8 @@ use Rattle.mg_change.specs.OpeningView.{IsPlainOpening, opening_of}
 use Rattle.mg_change.specs.Sent as calling
 use Rattle.mg_change.specs.Sent.{ending_places, opening_places, resuming_places}
 use Rattle.mg_change.specs.StreamView.{stream_of}
-use Rattle.mg_players.specs.Causes.{Answered, AreInLog, AskForMore, OpeningAsks, CallFalls, ClosedBy, Course, EndsBy, EndsSent, FallsAt, KillsLast, AllSentIn, SentNoneBehind, commands_at, course, places_of, sent_at, PutEndsBy, HasWritten}
+use Rattle.mg_players.specs.Causes.{Answered, AreInLog, OpeningAsks, CallFalls, ClosedBy, Course, EndsBy, EndsSent, FallsAt, KillsLast, AllSentIn, SentNoneBehind, commands_at, course, places_of, sent_at, PutEndsBy, HasWritten}
+use Rattle.mg_players.specs.Asking.{AllAskOn, DownloadLast, FindingLast}
 use Rattle.mg_players.specs.Follows.{FollowTurns, HasGiven, IsArgsFor, Placing, filter_in}
 use Rattle.mg_gridfs.specs.Buckets.{IsSize}
 use Rattle.mg_gridfs.specs.Causes.{IsUploading}
@@ -43,14 +44,16 @@ use Rattle.mg_ops.specs.InsertSends.{HasSentPieces}
 use Rattle.mg_ops.specs.Logs.{AddsJust}
 use Rattle.mg_script.specs.Plan.{Task, begin}
 use Rattle.mg_ops.specs.Drawn.{with_ids}
-use Rattle.mg_players.specs.Drawing.{first_id, sent_documents, sent_from}
+use Rattle.mg_players.specs.Drawing.{first_id, sent_documents, sent_from, supply_from}
+use Rattle.mg_players.specs.Kept.{ids_left}
+use Rattle.mg_players.specs.Owned.{AllOwn}
 use Rattle.mg_players.specs.Playing.{job_ticket}
 use Rattle.mg_players.specs.Plays as words
 use Rattle.mg_players.specs.Plays.{Extends, Moves, MovesTo, Places, all_places}
 use Rattle.mg_players.specs.PutFailures.{AnswersPut, PutReads}
 use Rattle.mg_players.specs.PutSends.{DoingSent, PutEndsSent}
-use Rattle.mg_players.specs.Puts.{BegunFor, CutBy, PutTask, put_aim, put_bucket, taken_in, total, writes}
-use Rattle.mg_players.specs.Spares.{ListsIts, ReadStops, SparesWhole}
+use Rattle.mg_players.specs.Puts.{BegunFor, CutBy, DoingSupplied, PutTask, Supply, put_aim, put_bucket, taken_in, total, writes}
+use Rattle.mg_players.specs.Reading.{HeardHeld, ListsIts, ListsOther, ReadStops}
 use Rattle.mg_players.specs.Sends.{IsCommandOf, MaySend, PutFlies, SendsOnly}
 use Rattle.mg_ops.specs.Underway.{HasInserted}
 use Rattle.mg_script.specs.declared.outcome.Answer.{Answer}
@@ -238,12 +241,12 @@ abbrev pub FindsSoFar : List Call → GetTask → List ℕ → Looking → Type 
 FindsSoFar calls g places doing = FallsAt (IsFindAt g (found_in doing)) calls 5 places (finding_places doing)
 
 -- The opening sent at the places told of it: it heard this record, and listed the chunks of its file by the call at this place. What was sent behind it asks for
--- more of them.
+-- more of them, each by the cursor that the reply to the command before told.
 pub record TellsGetOpened (calls : List Call) (wire : ℤ) (q : Places) (g : GetTask) (f : FileRecord) (at : Option ℕ) : Type 0 where
   pub heard : HeardRecord (sent_at q.opened calls wire) (get_bucket g.at) g.id (Some f)
   pub listed : (place : ℕ) → at ≡ Some place → IsOf q.opened place
   pub finds : FallsAt (IsFindAt g (Some f)) calls 5 q.opened 1
-  pub more : AskForMore calls (concat q.owns ++ q.now)
+  pub more : AllAskOn calls (all_places q) (concat q.owns ++ q.now)
 
 -- what one sent that had so many calls behind it: what goes on in its opening; or its opening, and what is behind that
 pub data TellsAsked (calls : List Call) (wire : ℤ) (q : Places) (g : GetTask) (done : ℕ) : Type 0 where
@@ -257,7 +260,7 @@ pub data TellsGetFails (calls : List Call) (wire : ℤ) (q : Places) (g : GetTas
   not_opened : 0 < g.read → TellsNoCall q → done ≡ 0 → files.OpeningFails (sent_at q.now calls wire) (get_bucket g.at) g.id e → TellsGetFails calls wire q g done e
   not_read : 0 < g.read → 1 ≤ done → (d : ClientDownload) (at : Option ℕ) → TellsGetOpened calls wire q g d.file at → (cursor : ClientCursor) → ReadFails (sent_at q.now calls wire) d cursor e
       → cursor_in d.doing ≡ Some cursor → IsSoundDownload d → AsksPlainly d → suc (length q.owns) ≡ done
-      → (listed : ℕ) → IsOf q.opened listed → ReadStops (sent_at (all_places q) calls wire) (SparesWhole calls g.at g.id d.file listed) e → TellsGetFails calls wire q g done e
+      → (listed : ℕ) → IsOf q.opened listed → HeardHeld (sent_at (all_places q) calls wire) g d.file cursor → ReadStops (sent_at (all_places q) calls wire) (ListsOther calls g.at d.file listed e) e → TellsGetFails calls wire q g done e
 
 abbrev pub TellsGetEnd : {A : Type 0} → List Call → ℤ → Places → GetTask → ℕ → Option ℕ → Ended A → Type 0
 TellsGetEnd calls wire q g done at ended.Unfinished = Unit {0}
@@ -267,8 +270,8 @@ TellsGetEnd calls wire q g done at (ended.Failed e) = TellsGetFails calls wire q
 -- what a get can tell at each stage, where the call at this place listed its chunks
 abbrev pub GetTells : Awaited → List Call → ℤ → Places → GetTask → GetStage → ℕ → Option ℕ → Type 0
 GetTells awaited calls wire q g gets.Unsent done at = TellsNoCall q × (q.now ≡ [])
-GetTells awaited calls wire q g (gets.Opens opening) done at = TellsNoCall q × IsOpeningFor g (finding_of opening) × IsSoundFinding (finding_of opening) × files.IsOpening awaited (sent_at q.now calls wire) (finding_of opening) × FindsSoFar calls g q.now (finding_of opening).doing
-GetTells awaited calls wire q g (gets.Reads download room) done at = TellsGetOpened calls wire q g (download_of download).file at × (suc (length q.owns) ≡ done) × IsFetching awaited (sent_at q.now calls wire) (download_of download) × IsDownload download × AsksPlainly (download_of download) × ListsIts (sent_at (all_places q) calls wire) g (download_of download)
+GetTells awaited calls wire q g (gets.Opens opening) done at = TellsNoCall q × IsOpeningFor g (finding_of opening) × IsSoundFinding (finding_of opening) × files.IsOpening awaited (sent_at q.now calls wire) (finding_of opening) × FindsSoFar calls g q.now (finding_of opening).doing × FindingLast awaited (λ (n : ℕ). IsOf q.now n) (finding_of opening).doing
+GetTells awaited calls wire q g (gets.Reads download room) done at = TellsGetOpened calls wire q g (download_of download).file at × (suc (length q.owns) ≡ done) × IsFetching awaited (sent_at q.now calls wire) (download_of download) × IsDownload download × AsksPlainly (download_of download) × ListsIts (sent_at (all_places q) calls wire) g (download_of download) × DownloadLast awaited calls (λ (n : ℕ). IsOf (all_places q) n) (download_of download)
 GetTells awaited calls wire q g (gets.Ended end) done at = TellsGetEnd calls wire q g done at end
 
 -- what a get tells behind a turn, and whether it sent what it may
@@ -297,30 +300,31 @@ pub record PutSaid (calls : List Call) (q : Places) (sent : List Fields → Type
   pub sends : sent (commands_at calls (all_places q))
 
 -- a put whose upload is open: each piece that is written was written by a call of its own, its call that goes on has sent what stands at the places of that and
--- has such a command on its way, and its upload knows what it stored
-pub record PutTellsOpen (awaited : Awaited) (calls : List Call) (wire : ℤ) (q : Places) (t : PutTask) (done : ℕ) (u : ClientUpload) : Type 0 where
+-- has such a command on its way, and its upload knows what it stored; what it draws ids from has those that are left
+pub record PutTellsOpen (awaited : Awaited) (calls : List Call) (wire : ℤ) (q : Places) (supply : Supply) (t : PutTask) (ids : ℕ → List ℕ) (done : ℕ) (u : ClientUpload) : Type 0 where
   pub aim_is : u.aim ≡ put_aim t
   pub sized : IsSize t.chunk
   pub opened : q.opened ≡ []
   pub counted : length q.owns ≡ done
   pub cut : CutBy u (taken_in u.doing t.pieces done) u.doing
   pub underway : IsUploading awaited (sent_at q.now calls wire) u
-  pub flies : PutFlies t u.doing
+  pub flies : PutFlies supply t u.doing
+  pub supplied : DoingSupplied supply t ids u.sent u.doing
   pub its : AnswersPut t (upload_error u)
   pub reads : PutReads awaited (sent_at q.now calls wire) (put_bucket t) u.doing
   pub knows : KnowsUpload awaited (sent_at (all_places q) calls wire) t.at u (taken_in u.doing t.pieces done)
-  pub said : PutSaid calls q (λ commands. DoingSent t commands u.checked u.sent u.doing)
+  pub said : PutSaid calls q (λ commands. DoingSent supply t commands u.checked u.sent u.doing)
 
 -- it has sent nothing
 abbrev pub SentNothing : Places → Type 0
 SentNothing q = (q.opened ≡ []) × (q.owns ≡ []) × (q.now ≡ [])
 
 -- what it can tell at each stage
-abbrev pub PutTells : Awaited → List Call → ℤ → Places → PutTask → ℕ → PutStage → Type 0
-PutTells awaited calls wire q t done puts.Undrawn = SentNothing q × (done ≡ 0)
-PutTells awaited calls wire q t done (puts.Begins begun) = SentNothing q × (done ≡ 0) × BegunFor t begun
-PutTells awaited calls wire q t done (puts.Goes going) = PutTellsOpen awaited calls wire q t done (upload_of going.upload) × (going.length ≡ total t.pieces)
-PutTells awaited calls wire q t done (puts.Ended end) = (q.opened ≡ []) × (length q.owns ≡ done) × PutEndsBy (sent_at (all_places q) calls wire) (sent_at q.now calls wire) t end × HasWritten t done end × PutSaid calls q (λ commands. PutEndsSent t commands end)
+abbrev pub PutTells : Awaited → List Call → ℤ → Places → Supply → PutTask → ℕ → PutStage → Type 0
+PutTells awaited calls wire q supply t done puts.Undrawn = SentNothing q × (done ≡ 0)
+PutTells awaited calls wire q supply t done (puts.Begins begun) = SentNothing q × (done ≡ 0) × BegunFor supply t begun
+PutTells awaited calls wire q supply t done (puts.Goes going) = PutTellsOpen awaited calls wire q supply t (ids_left going.ids) done (upload_of going.upload) × (going.length ≡ total t.pieces)
+PutTells awaited calls wire q supply t done (puts.Ended end) = (q.opened ≡ []) × (length q.owns ≡ done) × PutEndsBy (sent_at (all_places q) calls wire) (sent_at q.now calls wire) t end × HasWritten t done end × PutSaid calls q (λ commands. PutEndsSent supply t commands end)
 
 -- the number of what goes on: how many turns that did not pend come before it
 abbrev pub put_number : ℕ → PutStage → ℕ
@@ -332,24 +336,24 @@ put_number done (puts.Ended end) = suc done
 -- ---- all jobs
 
 -- what an insert tells of what it sent at these places, where its task is sent as this one; a follow, whose stream the call at this place opened
-abbrev pub InsertSays : Awaited → List Call → ℤ → Places → Task → InsertPlayer → Option ℕ → Type 0
-InsertSays awaited calls wire q t job at = InsertSaid awaited calls wire q (space job.ns.now) (sent_documents t) job.stage
+abbrev pub InsertSays : Awaited → List Call → ℤ → Places → Supply → Task → InsertPlayer → Option ℕ → Type 0
+InsertSays awaited calls wire q supply t job at = InsertSaid awaited calls wire q (space job.ns.now) (sent_documents t) job.stage
 
-abbrev pub FollowSays : Awaited → List Call → ℤ → Places → Task → FollowPlayer → Option ℕ → Type 0
-FollowSays awaited calls wire q t job at = Tells awaited calls wire q job.stage (kept job) at
+abbrev pub FollowSays : Awaited → List Call → ℤ → Places → Supply → Task → FollowPlayer → Option ℕ → Type 0
+FollowSays awaited calls wire q supply t job at = Tells awaited calls wire q job.stage (kept job) at
 
 -- a get, whose chunks the call at this place listed
-abbrev pub GetSays : Awaited → List Call → ℤ → Places → Task → GetPlayer → Option ℕ → Type 0
-GetSays awaited calls wire q t job at = GetTells awaited calls wire q (sought job.what) job.stage job.done at
+abbrev pub GetSays : Awaited → List Call → ℤ → Places → Supply → Task → GetPlayer → Option ℕ → Type 0
+GetSays awaited calls wire q supply t job at = GetTells awaited calls wire q (sought job.what) job.stage job.done at
 
-abbrev pub PutSays : Awaited → List Call → ℤ → Places → Task → PutPlayer → Option ℕ → Type 0
-PutSays awaited calls wire q t job at = PutTells awaited calls wire q (writes job.what) job.done job.stage
+abbrev pub PutSays : Awaited → List Call → ℤ → Places → Supply → Task → PutPlayer → Option ℕ → Type 0
+PutSays awaited calls wire q supply t job at = PutTells awaited calls wire q supply (writes job.what) job.done job.stage
 
-abbrev pub JobTells : Awaited → List Call → ℤ → Places → Task → Player → Option ℕ → Type 0
-JobTells awaited calls wire q t (player.Insert job) at = InsertSays awaited calls wire q t job at
-JobTells awaited calls wire q t (player.Follow job) at = FollowSays awaited calls wire q t job at
-JobTells awaited calls wire q t (player.Put job) at = PutSays awaited calls wire q t job at
-JobTells awaited calls wire q t (player.Get job) at = GetSays awaited calls wire q t job at
+abbrev pub JobTells : Awaited → List Call → ℤ → Places → Supply → Task → Player → Option ℕ → Type 0
+JobTells awaited calls wire q supply t (player.Insert job) at = InsertSays awaited calls wire q supply t job at
+JobTells awaited calls wire q supply t (player.Follow job) at = FollowSays awaited calls wire q supply t job at
+JobTells awaited calls wire q supply t (player.Put job) at = PutSays awaited calls wire q supply t job at
+JobTells awaited calls wire q supply t (player.Get job) at = GetSays awaited calls wire q supply t job at
 
 -- the number of what goes on in a job: how many turns that did not pend come before it
 abbrev pub number_of : Player → ℕ
@@ -359,13 +363,13 @@ number_of (player.Put job) = put_number job.done job.stage
 number_of (player.Get job) = job.done
 
 -- what a job of any kind tells behind a turn, and in it
-abbrev pub TellsBehind : Awaited → List Call → List Call → ℤ → Task → Places → ℕ → Player → Option ℕ → Type 0
+abbrev pub TellsBehind : Awaited → List Call → List Call → ℤ → Supply → Task → Places → ℕ → Player → Option ℕ → Type 0
 TellsBehind = words.TellsBehind JobTells number_of
 
-abbrev pub TurnTells : (Task → Type 0) → Awaited → Awaited → LogTold → LogTold → ℤ → Player → Player → Moves → Type 0
+abbrev pub TurnTells : (Supply → Task → Type 0) → Awaited → Awaited → LogTold → LogTold → ℤ → Player → Player → Moves → Type 0
 TurnTells so = words.TurnTells task_of Plays JobTells number_of so
 
-abbrev pub TellsAs : (Task → Type 0) → Player → Player → Type 0
+abbrev pub TellsAs : (Supply → Task → Type 0) → Player → Player → Type 0
 TellsAs so = words.TellsAs task_of JobTells number_of so
 
 -- each command of a job stands in a turn of it, and its turns sent no others
@@ -381,21 +385,21 @@ pub record FollowTold (awaited : Awaited) (calls : List Call) (wire : ℤ) (c : 
   pub tells : Tells awaited calls wire places s k at
   pub sent : AllSent c i places (number s k)
 
--- A job tells what it should, each of its commands stands in a turn of it, and its turns sent no others than it may send. What it inserts has ids from the one
+-- A job tells what it should, each of its commands stands in a turn of it, and its turns sent no others than it may send. It is supplied with the ids from the one
 -- of this number on.
-pub record JobTold (ids : ℕ → List ℕ) (first : ℕ) (awaited : Awaited) (calls : List Call) (wire : ℤ) (c : Course) (i : ℕ) (p : Player) (at : Option ℕ) : Type 0 where
+pub record JobTold (supply : Supply) (first : ℕ) (awaited : Awaited) (calls : List Call) (wire : ℤ) (c : Course) (i : ℕ) (p : Player) (at : Option ℕ) : Type 0 where
   pub places : Places
-  pub tells : JobTells awaited calls wire places (sent_from ids first (task_of p)) p at
+  pub tells : JobTells awaited calls wire places (supply_from supply first) (sent_from supply.ids first (task_of p)) p at
   pub sent : AllSent c i places (number_of p)
-  pub sends : SendsOnly (MaySend (sent_from ids first (task_of p))) c i calls
+  pub sends : SendsOnly (MaySend (supply_from supply first) (sent_from supply.ids first (task_of p))) c i calls
 
 -- each job that has a task tells what it should, where these calls opened their streams, and the notes count what was sent; the ticket of a job is that of
 -- its newest command
-pub record AllTold (ids : ℕ → List ℕ) (awaited : Awaited) (calls : List Call) (wire : ℤ) (c : Course) (tasks : List Task) (players : List Player) (places : ℕ → Option ℕ) : Type 0 where
+pub record AllTold (supply : Supply) (awaited : Awaited) (calls : List Call) (wire : ℤ) (c : Course) (tasks : List Task) (players : List Player) (places : ℕ → Option ℕ) : Type 0 where
   pub count : length calls ≡ c.begun + sum_by (λ t. t.started) c.notes
-  pub each : (i : ℕ) (t : Task) (p : Player) → slice_get tasks i ≡ Some t → slice_get players i ≡ Some p → JobTold ids (first_id tasks c.order i) awaited calls wire c i p (places i)
+  pub each : (i : ℕ) (t : Task) (p : Player) → slice_get tasks i ≡ Some t → slice_get players i ≡ Some p → JobTold supply (first_id tasks c.order i) awaited calls wire c i p (places i)
   pub newest : (i : ℕ) (p : Player) (n place : ℕ) → slice_get players i ≡ Some p → job_ticket p ≡ Some n → awaited n ≡ Some place → SentNoneBehind c i place
 
--- how a run knows and tells that began with one log and these ids, and has another log
-abbrev pub AllTell : (ℕ → List ℕ) → Awaited → LogTold → LogTold → ℤ → List Task → List ℕ → List Turned → List Player → Type 0
-AllTell ids awaited log log' wire tasks order notes players = (calls : List Call) → log ≡ Some calls → (calls' : List Call) × (log' ≡ Some calls') × (known : AllKnow awaited calls' players) × AllTold ids awaited calls' wire (course calls order notes) tasks players known.places
+-- how a run knows and tells that began with one log and supplies this, and has another log; each of its jobs owns and names its own cursors alone
+abbrev pub AllTell : Supply → Awaited → LogTold → LogTold → ℤ → List Task → List ℕ → List Turned → List Player → Type 0
+AllTell supply awaited log log' wire tasks order notes players = (calls : List Call) → log ≡ Some calls → (calls' : List Call) × (log' ≡ Some calls') × (known : AllKnow awaited calls' players) × AllTold supply awaited calls' wire (course calls order notes) tasks players known.places × AllOwn calls' (course calls order notes) known.owners

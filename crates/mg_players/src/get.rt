@@ -320,7 +320,7 @@ impl<'a> Kind for GetPlayer<'a> {
 
     ghost draws = { λ p. 0 };
 
-    ghost draws_as = { λ ids p t. Unit {0} };
+    ghost draws_as = { λ ids p supply t. Unit {0} };
 
     ghost has_ids = { λ p. Unit {0} };
 

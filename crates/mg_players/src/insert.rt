@@ -154,7 +154,7 @@ impl<'a> Kind for InsertPlayer<'a> {
 
     ghost draws = { λ p. next_draws p.stage p.documents.now };
 
-    ghost draws_as = { InsertDrawsAs };
+    ghost draws_as = { λ ids p supply t. InsertDrawsAs ids p t };
 
     ghost has_ids = { λ p. HasIds p.stage };
 

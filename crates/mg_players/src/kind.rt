@@ -8,8 +8,9 @@ ghost use Rattle.mg_link.specs.Owner.{Owner};
 ghost use Rattle.mg_ops.specs.Drawn.{AreLater};
 ghost use Rattle.mg_script.specs.Plan.{Task};
 ghost use Rattle.mg_script.specs.declared.outcome.Outcome.{Outcome};
-ghost use Rattle.mg_players.specs.Plays.{AnySent, CanGo, GetsReady, Goes, Places};
+ghost use Rattle.mg_players.specs.Plays.{CanGo, GetsReady, Goes, Places, SentAt};
 ghost use Rattle.mg_players.specs.Progress.{ComesTo};
+ghost use Rattle.mg_players.specs.Puts.{Supply};
 
 use mg_bson::DateTime;
 use mg_link::{Error, IdSource, Link};
@@ -36,8 +37,8 @@ pub trait Kind: Sized + Drop {
     /// What it knows of its server, where it is this to the other jobs and the call at this place opened its stream.
     ghost plays: { Awaited → List Call → Self → Owner → Option ℕ → Type 0 };
 
-    /// What it tells of what it sent at these places, where its task is sent as this one.
-    ghost tells: { Awaited → List Call → ℤ → Places → Task → Self → Option ℕ → Type 0 };
+    /// What it tells of what it sent at these places, where it is supplied so and its task is sent as this one.
+    ghost tells: { Awaited → List Call → ℤ → Places → Supply → Task → Self → Option ℕ → Type 0 };
 
     /// How many turns that did not pend come before what goes on.
     ghost number: { Self → ℕ };
@@ -51,8 +52,8 @@ pub trait Kind: Sized + Drop {
     /// How many ids it draws in its next turn.
     ghost draws: { Self → ℕ };
 
-    /// Where it has yet to draw its ids, this is its task as it sends it with those that a source gives.
-    ghost draws_as: { (ℕ → List ℕ) → Self → Task → Type 0 };
+    /// Where it has yet to draw its ids, it is supplied with those that a source gives, and this is its task as it sends it with them.
+    ghost draws_as: { (ℕ → List ℕ) → Self → Supply → Task → Type 0 };
 
     /// It drew the ids that it needs.
     ghost has_ids: { Self → Type 0 };
@@ -88,7 +89,7 @@ pub trait Kind: Sized + Drop {
     fn go<L: Link>(self, alloc: Global, link: &mut L, moment: DateTime) -> Self
         requires can { CanGo ticket holds (L.awaited link.old) (L.wire link.old) self }
         requires ready { is_ready self }
-        ensures goes { Goes ticket holds task plays tells number has_ids AnySent (L.awaited link.old) (L.awaited link.new) (L.log link.old) (L.log link.new) (L.wire link.new) self result }
+        ensures goes { Goes ticket holds task plays tells number has_ids (SentAt moment.millis) (L.awaited link.old) (L.awaited link.new) (L.log link.old) (L.log link.new) (L.wire link.new) self result }
         ensures comes { ComesTo (λ calls k last. ready_at calls self k last) (λ calls k last. at calls result k last) (L.pends link.old) (L.pends link.new) }
         ensures later { Later (L.faults link.old) (L.faults link.new) (L.pends link.old) (L.pends link.new)
             (L.wire link.old) (L.wire link.new) (L.prompt link.old) (L.prompt link.new) };

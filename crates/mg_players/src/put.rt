@@ -1,5 +1,5 @@
 //! A job that writes a file.
-ghost use Rattle.std.specs.Prelude.{◌≡◌, ◌<◌, ◌≤◌, ◌+◌, ◌^◌, IfErr, IfOk, Some, length, slice_get};
+ghost use Rattle.std.specs.Prelude.{◌≡◌, ◌<◌, ◌≤◌, ◌+◌, ◌^◌, ℕ, ℤ, IfErr, IfOk, OnOk, Some, length, slice_get};
 ghost use Rattle.mg_link.specs.Acts.{IsOut};
 ghost use Rattle.mg_link.specs.Commands.{as_database};
 ghost use Rattle.mg_link.specs.Errors.{plain};
@@ -12,6 +12,7 @@ ghost use Rattle.mg_gridfs.specs.Uploads.{fresh_upload, upload_ticket};
 ghost use Rattle.mg_gridfs.specs.UploadView.{IsUpload, upload_of};
 ghost use Rattle.mg_script.specs.Plan.{pieces};
 ghost use Rattle.mg_players.specs.Drawing.{put_draws};
+ghost use Rattle.mg_players.specs.Kept.{ids_left};
 ghost use Rattle.mg_players.specs.Progress.{PutGoes};
 ghost use Rattle.mg_players.specs.Putting.{Drew, DrewFor, Opens, OpensFrom, PutTurns};
 ghost use Rattle.mg_players.specs.Puts.{CannotOpen, HoldsUpload, IsSamePut, NamesFiles, PutHasIds, put_aim, put_bucket, put_end, total, where_counted, writes};
@@ -113,6 +114,7 @@ fn upload_for(
     ensures sound { IfOk result (λ s. IsUpload s) }
     ensures named { IfOk result (λ s. NamesFiles (writes what.entry)) }
     ensures err { IfErr result (CannotOpen (writes what.entry)) }
+    ensures undrawn { OnOk result ((k : ℕ) → ids_left ids.new k ≡ ids_left ids.old k) }
 {
     let bucket = bucket_for(alloc, what)?;
     let id = what.id.clone()?;
@@ -191,7 +193,7 @@ fn begun<I: IdSource>(alloc: Global, ids: &mut I, what: Written<'_>) -> Result<B
 
 /// A put whose upload was opened, or its failure. Nothing is sent.
 fn opened(alloc: Global, what: Written<'_>, begun: Beginning) -> PutStage
-    ensures { Opens (writes what.entry) begun.length result }
+    ensures { Opens (writes what.entry) begun result }
 {
     let Beginning { mut ids, length } = begun;
     match upload_for(alloc, what, &mut ids) {
@@ -258,7 +260,7 @@ impl<'a> PutPlayer<'a> {
     fn go_on<L: Link>(self, link: &mut L, going: Going, moment: DateTime) -> PutPlayer<'a>
         requires held { IsOut (L.awaited link.old) (upload_ticket (upload_of going.upload)) }
         requires holds { HoldsUpload going.upload self.done (length (pieces self.what.pieces.now)) }
-        ensures turned { PutTurns (L.awaited link.old) (L.awaited link.new) (L.log link.old) (L.log link.new) (L.wire link.old) (record self.entry { stage = PutStage.Goes going }) result }
+        ensures turned { PutTurns (L.awaited link.old) (L.awaited link.new) (L.log link.old) (L.log link.new) (L.wire link.old) moment.millis (record self.entry { stage = PutStage.Goes going }) result }
         ensures comes { PutGoes (L.pends link.old) (L.pends link.new) (record self.entry { stage = PutStage.Goes going }) result }
         ensures later { Later (L.faults link.old) (L.faults link.new) (L.pends link.old) (L.pends link.new)
             (L.wire link.old) (L.wire link.new) (L.prompt link.old) (L.prompt link.new) }
@@ -278,7 +280,7 @@ impl<'a> PutPlayer<'a> {
         requires holds { HoldsUpload going.upload self.done (length (pieces self.what.pieces.now)) }
         requires there { slice_get (pieces self.what.pieces.now) self.done ≡ Some piece.now }
         requires count { next ≡ self.done + 1 }
-        ensures turned { PutTurns (L.awaited link.old) (L.awaited link.new) (L.log link.old) (L.log link.new) (L.wire link.old) (record self.entry { stage = PutStage.Goes going }) result }
+        ensures turned { (moment : ℤ) → PutTurns (L.awaited link.old) (L.awaited link.new) (L.log link.old) (L.log link.new) (L.wire link.old) moment (record self.entry { stage = PutStage.Goes going }) result }
         ensures comes { PutGoes (L.pends link.old) (L.pends link.new) (record self.entry { stage = PutStage.Goes going }) result }
         ensures later { Later (L.faults link.old) (L.faults link.new) (L.pends link.old) (L.pends link.new)
             (L.wire link.old) (L.wire link.new) (L.prompt link.old) (L.prompt link.new) }
@@ -299,7 +301,7 @@ impl<'a> PutPlayer<'a> {
         requires held { IsOut (L.awaited link.old) (upload_ticket (upload_of going.upload)) }
         requires holds { HoldsUpload going.upload self.done (length (pieces self.what.pieces.now)) }
         requires all { length (pieces self.what.pieces.now) ≤ self.done }
-        ensures turned { PutTurns (L.awaited link.old) (L.awaited link.new) (L.log link.old) (L.log link.new) (L.wire link.old) (record self.entry { stage = PutStage.Goes going }) result }
+        ensures turned { PutTurns (L.awaited link.old) (L.awaited link.new) (L.log link.old) (L.log link.new) (L.wire link.old) moment.millis (record self.entry { stage = PutStage.Goes going }) result }
         ensures comes { PutGoes (L.pends link.old) (L.pends link.new) (record self.entry { stage = PutStage.Goes going }) result }
         ensures later { Later (L.faults link.old) (L.faults link.new) (L.pends link.old) (L.pends link.new)
             (L.wire link.old) (L.wire link.new) (L.prompt link.old) (L.prompt link.new) }
@@ -318,7 +320,7 @@ impl<'a> PutPlayer<'a> {
 impl<'a> Kind for PutPlayer<'a> {
     ghost use Rattle.std.specs.Prelude.{◌≡◌, length};
     ghost use Rattle.mg_script.specs.declared.outcome.Outcome.TheVariants as outcomes;
-    ghost use Rattle.mg_players.specs.Drawing.{put_draws};
+    ghost use Rattle.mg_players.specs.Drawing.{PutDrawsAs, put_draws};
     ghost use Rattle.mg_players.specs.Headline.{PutPlays, put_task};
     ghost use Rattle.mg_players.specs.Progress.{PutAt, PutReady};
     ghost use Rattle.mg_players.specs.Puts.{PutHasIds, PutHolds, put_end, put_ended, put_ticket, writes};
@@ -346,7 +348,7 @@ impl<'a> Kind for PutPlayer<'a> {
 
     ghost draws = { λ p. put_draws p.stage (writes p.what) };
 
-    ghost draws_as = { λ ids p t. Unit {0} };
+    ghost draws_as = { λ ids p supply t. PutDrawsAs ids p supply };
 
     ghost has_ids = { λ p. PutHasIds p.stage };
 

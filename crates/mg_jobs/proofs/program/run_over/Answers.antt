@@ -2,6 +2,7 @@ use Rattle.std.proofs.Common.{◌≡◌, ◌+◌, ℕ, ℤ, List, [], ◌∷◌,
 use Rattle.std.specs.Prelude.{slice_get}
 use Rattle.std.specs.List.{sum_by}
 use Rattle.std.proofs.lemmas.List.Sums.{sum_by-cons}
+use Rattle.std.proofs.Math.Path.{fun_ext}
 use Rattle.mg_link.specs.Ids.{counted_id}
 use Rattle.mg_link.specs.History.{IsLegal}
 use Rattle.mg_link.specs.Kept.{IsByRules, state_of_kept, steps_of}
@@ -21,9 +22,11 @@ use Rattle.mg_players.specs.Counts.{AreNoted, StartedBy}
 use Rattle.mg_jobs.specs.Fated.{AreItsSteps}
 use Rattle.mg_players.specs.Progress.{AllPlayed, IsPlayed, pends_last, turns_done}
 use Rattle.mg_players.specs.Causes.{AllPollOwn, AllWaitAlone, Course, OutcomeCaused, course}
-use Rattle.mg_players.specs.Drawing.{as_sent}
+use Rattle.mg_players.specs.Drawing.{as_sent, supplied, supply_of}
 use Rattle.mg_players.specs.Headline.{OutcomeFiled, OutcomeFollowed}
-use Rattle.mg_jobs.specs.Program.{script_ids}
+use Rattle.mg_players.specs.Owned.{NamesNoOthers}
+use Rattle.mg_jobs.specs.Program.{script_ids, script_supply}
+use Rattle.mg_players.specs.Puts.{Supply}
 use Rattle.mg_players.specs.Sends.{MaySend, SendsOnly}
 use Rattle.mg_script.specs.Plan.{Task, tasks}
 use Rattle.mg_script.specs.declared.outcome.Outcome.{Outcome}
@@ -83,23 +86,26 @@ returns-clause-followed g c =
     let fates = g.F.Fated.fates in
     let here : Course = course [] script.order.items notes in
     let sent : ℕ → Task → Task = λ i t. as_sent (script_ids script) (tasks script.jobs.items) script.order.items i t in
-    let caused_is : (i : ℕ) (t : Task) (r : Outcome) → slice_get (tasks script.jobs.items) i ≡ Some t → slice_get c.in_ok-played.played.outcomes.items i ≡ Some r → OutcomeCaused (out_at f.0) here i f.0 script.wire (sent i t) r = λ i t r ht hr.
+    let drawn_is : drawn ≡ script_ids script = fun_ext same_ids in
+    let own_by : (ℕ → List ℕ) → List Task → List ℕ → ℕ → Supply = λ ids ts order i. supply_of (supplied ids script.moment.millis) ts order i in
+    let own : ℕ → Supply = λ i. own_by (script_ids script) (tasks script.jobs.items) script.order.items i in
+    let caused_is : (i : ℕ) (t : Task) (r : Outcome) → slice_get (tasks script.jobs.items) i ≡ Some t → slice_get c.in_ok-played.played.outcomes.items i ≡ Some r → OutcomeCaused (out_at f.0) here i f.0 script.wire (own i) (sent i t) r = λ i t r ht hr.
     let waits = out_at c.run_jobs.new.link.calls in
-    subst (λ (l : List Call). OutcomeCaused (out_at l) (course [] script.order.items notes) i f.0 script.wire (as_sent (script_ids script) (tasks script.jobs.items) script.order.items i t) r) (same_some c.run_jobs.new.link.calls f.0 f.1)
-    (subst (λ (s : Task). OutcomeCaused waits (course [] script.order.items notes) i f.0 script.wire s r) (sent_same (script_ids script) drawn (tasks script.jobs.items) script.order.items i t same_ids)
-    (subst (λ (w : ℤ). OutcomeCaused waits (course [] script.order.items notes) i f.0 w (as_sent drawn (tasks script.jobs.items) script.order.items i t) r) wire
-    (subst (λ (l : List Call). OutcomeCaused waits (course [] script.order.items notes) i l c.new-link.result.wire (as_sent drawn (tasks script.jobs.items) script.order.items i t) r) same
-    (subst (λ (js : List Job). OutcomeCaused waits (course [] script.order.items notes) i told.0 c.new-link.result.wire (as_sent drawn (tasks js) script.order.items i t) r) jobs
-    (subst (λ (o : List ℕ). OutcomeCaused waits (course [] o notes) i told.0 c.new-link.result.wire (as_sent drawn (tasks c.as_slice.result.now) o i t) r) c.as_slice-2.ensures.value (told.2 i t r (ap (λ l. slice_get (tasks l) i) jobs ∙ ht) hr)))))) in
+    subst (λ (l : List Call). OutcomeCaused (out_at l) (course [] script.order.items notes) i f.0 script.wire (own i) (as_sent (script_ids script) (tasks script.jobs.items) script.order.items i t) r) (same_some c.run_jobs.new.link.calls f.0 f.1)
+    (subst (λ (ids : ℕ → List ℕ). OutcomeCaused waits (course [] script.order.items notes) i f.0 script.wire (own_by ids (tasks script.jobs.items) script.order.items i) (as_sent ids (tasks script.jobs.items) script.order.items i t) r) drawn_is
+    (subst (λ (w : ℤ). OutcomeCaused waits (course [] script.order.items notes) i f.0 w (own_by drawn (tasks script.jobs.items) script.order.items i) (as_sent drawn (tasks script.jobs.items) script.order.items i t) r) wire
+    (subst (λ (l : List Call). OutcomeCaused waits (course [] script.order.items notes) i l c.new-link.result.wire (own_by drawn (tasks script.jobs.items) script.order.items i) (as_sent drawn (tasks script.jobs.items) script.order.items i t) r) same
+    (subst (λ (js : List Job). OutcomeCaused waits (course [] script.order.items notes) i told.0 c.new-link.result.wire (own_by drawn (tasks js) script.order.items i) (as_sent drawn (tasks js) script.order.items i t) r) jobs
+    (subst (λ (o : List ℕ). OutcomeCaused waits (course [] o notes) i told.0 c.new-link.result.wire (own_by drawn (tasks c.as_slice.result.now) o i) (as_sent drawn (tasks c.as_slice.result.now) o i t) r) c.as_slice-2.ensures.value (told.2 i t r (ap (λ l. slice_get (tasks l) i) jobs ∙ ht) hr)))))) in
     let as_fates_is : AreAsFates history fates f.0 link.pended = subst (λ l. AreAsFates history fates l link.pended) calls
     (subst (λ fates. AreAsFates history fates link.calls link.pended) c.into_link.ensures.fates
     (subst (λ s. AreAsFates s.history link.fates link.calls link.pended) stored c.into_parts-store.ensures.fates)) in
-    let sends_is : (i : ℕ) (t : Task) → slice_get (tasks script.jobs.items) i ≡ Some t → SendsOnly (MaySend (sent i t)) here i f.0 = λ i t ht.
+    let sends_is : (i : ℕ) (t : Task) → slice_get (tasks script.jobs.items) i ≡ Some t → SendsOnly (MaySend (own i) (sent i t)) here i f.0 = λ i t ht.
     let sent = c.in_ok-played.ensures.sends [] begins in
-    subst (λ (s : Task). SendsOnly (MaySend s) (course [] script.order.items notes) i f.0) (sent_same (script_ids script) drawn (tasks script.jobs.items) script.order.items i t same_ids)
-    (subst (λ (l : List Call). SendsOnly (MaySend (as_sent drawn (tasks script.jobs.items) script.order.items i t)) (course [] script.order.items notes) i l) (same_some sent.0 f.0 (sym sent.1 ∙ f.1))
-    (subst (λ (js : List Job). SendsOnly (MaySend (as_sent drawn (tasks js) script.order.items i t)) (course [] script.order.items notes) i sent.0) jobs
-    (subst (λ (o : List ℕ). SendsOnly (MaySend (as_sent drawn (tasks c.as_slice.result.now) o i t)) (course [] o notes) i sent.0) c.as_slice-2.ensures.value (sent.2 i t (ap (λ l. slice_get (tasks l) i) jobs ∙ ht))))) in
+    subst (λ (ids : ℕ → List ℕ). SendsOnly (MaySend (own_by ids (tasks script.jobs.items) script.order.items i) (as_sent ids (tasks script.jobs.items) script.order.items i t)) (course [] script.order.items notes) i f.0) drawn_is
+    (subst (λ (l : List Call). SendsOnly (MaySend (own_by drawn (tasks script.jobs.items) script.order.items i) (as_sent drawn (tasks script.jobs.items) script.order.items i t)) (course [] script.order.items notes) i l) (same_some sent.0 f.0 (sym sent.1 ∙ f.1))
+    (subst (λ (js : List Job). SendsOnly (MaySend (own_by drawn (tasks js) script.order.items i) (as_sent drawn (tasks js) script.order.items i t)) (course [] script.order.items notes) i sent.0) jobs
+    (subst (λ (o : List ℕ). SendsOnly (MaySend (own_by drawn (tasks c.as_slice.result.now) o i) (as_sent drawn (tasks c.as_slice.result.now) o i t)) (course [] o notes) i sent.0) c.as_slice-2.ensures.value (sent.2 i t (ap (λ l. slice_get (tasks l) i) jobs ∙ ht))))) in
     let well_is : AreKept 0 fates → (i : ℕ) (t : Task) (r : Outcome) → slice_get (tasks script.jobs.items) i ≡ Some t → slice_get c.in_ok-played.played.outcomes.items i ≡ Some r → JobWell here i f.0 (sent i t) r = λ kept i t r ht hr.
     let prompt : IsPromptLink c.new-link.result.fates c.new-link.result.calls c.new-link.result.pended = subst (λ (m : InMemory). IsPromptLink m.fates m.calls m.pended) (sym c.new-link.ensures)
     (subst (λ (fs : List Fate). IsPromptLink fs c.args.link.calls c.args.link.pended) (sym c.requires.fated) (subst (λ (l : List Call). IsPromptLink fates l c.args.link.pended) (sym c.requires.unused) (subst (λ (ps : List ℕ). IsPromptLink fates [] ps) (sym c.requires.unpolled) (prompt_first fates kept)))) in
@@ -116,6 +122,10 @@ returns-clause-followed g c =
     let played_is : (i : ℕ) (t : Task) (r : Outcome) → slice_get (tasks script.jobs.items) i ≡ Some t → slice_get c.in_ok-played.played.outcomes.items i ≡ Some r → IsPlayed (sent i t) (turns_done i script.order.items notes) (pends_last i script.order.items notes) r = λ i t r ht hr.
     played_as_sent (script_ids script) (tasks script.jobs.items) script.order.items i t (turns_done i script.order.items notes) (pends_last i script.order.items notes) r (rows_is i t r ht hr) in
     let own_is : NamesItsOwn f.0 = f.3 names_none_at_first in
+    let names_is : (i : ℕ) → NamesNoOthers f.0 here i = λ i.
+    let names = c.in_ok-played.ensures.names [] begins in
+    subst (λ (l : List Call). NamesNoOthers l (course [] script.order.items notes) i) (same_some names.0 f.0 (sym names.1 ∙ f.1))
+    (subst (λ (o : List ℕ). NamesNoOthers names.0 (course [] o notes) i) c.as_slice-2.ensures.value (names.2 i)) in
     let outcomes_is : length c.in_ok-played.played.outcomes.items ≡ length (tasks script.jobs.items) = c.in_ok-played.ensures.outcomes ∙ ap length jobs ∙ sym (tasks_counted script.jobs.items) in
     record {
       calls = f.0;
@@ -156,8 +166,9 @@ returns-clause-followed g c =
           (subst (λ (o : List ℕ). AllWaitAlone (out_at c.new-link.result.calls) (out_at c.run_jobs.new.link.calls) (Some c.new-link.result.calls) o notes) c.as_slice-2.ensures.value c.in_ok-played.ensures.waits_alone));
       sends = sends_is;
       prompt = λ i taken. answered_well (course [] c.args.script.order.items notes) i f.0 (steps_of history) legal stands holds (creations_meet history rules) taken;
+      names = names_is;
       well = well_is;
       well_here = λ kept i t r ht hr.
-          run_ends_in history fates kept f.0 link.pended as_fates_is stands alone_is rules (run_mildly history f.0 alone_is stands (script_ids script) (tasks script.jobs.items) script.order.items notes c.requires.jobs notes_is started sends_is) legal holds own_is (out_at f.0) script.wire
-          (script_ids script) (tasks script.jobs.items) script.order.items notes c.in_ok-played.played.outcomes.items c.requires.jobs notes_is outcomes_is started sends_is caused_is played_is i t r ht hr (well_is kept i t r ht hr);
+          run_ends_in history fates kept f.0 link.pended as_fates_is stands alone_is rules (run_mildly history f.0 alone_is stands (script_supply script) (tasks script.jobs.items) script.order.items notes c.requires.jobs notes_is started sends_is) legal holds own_is (out_at f.0) script.wire
+          (script_supply script) (tasks script.jobs.items) script.order.items notes c.in_ok-played.played.outcomes.items c.requires.jobs notes_is outcomes_is started sends_is names_is caused_is played_is i t r ht hr (well_is kept i t r ht hr);
     }

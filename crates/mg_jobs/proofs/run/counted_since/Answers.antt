@@ -3,7 +3,7 @@ use Rattle.mg_link.specs.Link.{Awaited}
 use Rattle.mg_players.specs.Counts.{IsNoted, shown}
 use Rattle.mg_players.specs.Runs.{Goes}
 use Rattle.mg_players.specs.Playing.{job_ticket}
-use Rattle.mg_players.specs.Plays.{AnySent}
+use Rattle.mg_players.specs.Plays.{SentAt}
 use Rattle.mg_players.proofs.Advancing.{noted_once, noted_so}
 use Rattle.mg_players.proofs.OwnTickets.{newest_of}
 use Rattle.mg_jobs.proofs.Showing.{goes_shown}
@@ -17,11 +17,11 @@ returns-clause-goes g c =
     let link = c.go-player.new.link.0 in
     let p = c.args.turn.player in
     let p' = c.go-player.result in
-    let goes = subst (λ (a : Awaited). Goes AnySent (shown held began a) (shown held began (g.L.Link.awaited link)) (g.L.Link.log c.args.link) (g.L.Link.log link) (g.L.Link.wire link) p p') c.requires.awaited
-    (subst (λ l. Goes AnySent (shown held began (g.L.Link.awaited l)) (shown held began (g.L.Link.awaited link)) (g.L.Link.log l) (g.L.Link.log link) (g.L.Link.wire link) p p') c.new-counting.ensures.link c.go-player.ensures.goes) in
-    subst (λ l. Goes AnySent (g.L.Link.awaited c.args.link) (g.L.Link.awaited l) (g.L.Link.log c.args.link) (g.L.Link.log l) (g.L.Link.wire l) p p') (sym c.into_parts-link.ensures.link)
-    (subst (λ (a : Awaited). Goes AnySent a (g.L.Link.awaited link) (g.L.Link.log c.args.link) (g.L.Link.log link) (g.L.Link.wire link) p p') (sym c.requires.awaited)
-    (goes_shown AnySent held began (g.L.Link.awaited link) (g.L.Link.log c.args.link) (g.L.Link.log link) (g.L.Link.wire link) p p' c.requires.held c.into_parts-link.ensures.own.1.others goes))
+    let goes = subst (λ (a : Awaited). Goes (SentAt c.args.turn.moment.millis) (shown held began a) (shown held began (g.L.Link.awaited link)) (g.L.Link.log c.args.link) (g.L.Link.log link) (g.L.Link.wire link) p p') c.requires.awaited
+    (subst (λ l. Goes (SentAt c.args.turn.moment.millis) (shown held began (g.L.Link.awaited l)) (shown held began (g.L.Link.awaited link)) (g.L.Link.log l) (g.L.Link.log link) (g.L.Link.wire link) p p') c.new-counting.ensures.link c.go-player.ensures.goes) in
+    subst (λ l. Goes (SentAt c.args.turn.moment.millis) (g.L.Link.awaited c.args.link) (g.L.Link.awaited l) (g.L.Link.log c.args.link) (g.L.Link.log l) (g.L.Link.wire l) p p') (sym c.into_parts-link.ensures.link)
+    (subst (λ (a : Awaited). Goes (SentAt c.args.turn.moment.millis) a (g.L.Link.awaited link) (g.L.Link.log c.args.link) (g.L.Link.log link) (g.L.Link.wire link) p p') (sym c.requires.awaited)
+    (goes_shown (SentAt c.args.turn.moment.millis) held began (g.L.Link.awaited link) (g.L.Link.log c.args.link) (g.L.Link.log link) (g.L.Link.wire link) p p' c.requires.held c.into_parts-link.ensures.own.1.others goes))
 
 pub returns-clause-comes : goal.returns-clause-comes
 returns-clause-comes g c = noted_so _ _ c.into_parts-link.result.1 _ _ c.new-counting.ensures.none c.into_parts-link.ensures.pended c.go-player.ensures.comes

@@ -47,14 +47,14 @@ loop-number-preserved g c =
           (c.in_ok-turn.ensures.rows ts (take c.loop-number.number-index c.args.order.now) (length_take c.args.order.now c.loop-number.number-index (get_or c.args.order.now c.loop-number.number-index 0) there ∙ sym c.loop-number.invariant.turns) (c.loop-number.invariant.rows ts before));
       drawn = λ first ts does before. drawn_next first (g.I.IdSource.ids c.turn.new.ids) ts c.args.order.now c.loop-number.number-index (get_or c.args.order.now c.loop-number.number-index 0) c.turn.new.self.players.items there
           (c.in_ok-turn.ensures.drawn first ts (take c.loop-number.number-index c.args.order.now) (c.loop-number.invariant.tasks ts does) (c.loop-number.invariant.drawn first ts does before));
-      told = λ first begun ts does at drawn before. tell_next first (g.L.Link.awaited c.turn.new.link) begun (g.L.Link.log c.turn.new.link) (g.L.Link.wire c.turn.new.link) ts c.args.order.now c.loop-number.number-index (get_or c.args.order.now c.loop-number.number-index 0) c.turn.new.self.turns.items c.turn.new.self.players.items there
-          (c.in_ok-turn.ensures.told first begun ts (take c.loop-number.number-index c.args.order.now) (length_take c.args.order.now c.loop-number.number-index (get_or c.args.order.now c.loop-number.number-index 0) there ∙ sym c.loop-number.invariant.turns) (c.loop-number.invariant.rows ts at) (c.loop-number.invariant.drawn first ts does drawn) (c.loop-number.invariant.told first begun ts does at drawn before));
-      polled = λ first begun ts does at drawn before.
+      told = λ supply begun ts its does at drawn before. tell_next supply (g.L.Link.awaited c.turn.new.link) begun (g.L.Link.log c.turn.new.link) (g.L.Link.wire c.turn.new.link) ts c.args.order.now c.loop-number.number-index (get_or c.args.order.now c.loop-number.number-index 0) c.turn.new.self.turns.items c.turn.new.self.players.items there
+          (c.in_ok-turn.ensures.told supply begun ts (take c.loop-number.number-index c.args.order.now) its (length_take c.args.order.now c.loop-number.number-index (get_or c.args.order.now c.loop-number.number-index 0) there ∙ sym c.loop-number.invariant.turns) (c.loop-number.invariant.rows ts at) (c.loop-number.invariant.drawn supply.ids ts does drawn) (c.loop-number.invariant.told supply begun ts its does at drawn before));
+      polled = λ supply begun ts its does at drawn before.
           let p = c.in_ok-turn.ensures.polled in
           subst (λ (ns : List Turned). AllPollOwn begun (take (c.loop-number.number-index + 1) c.args.order.now) ns (g.L.Link.polls c.args.link.now) (g.L.Link.polls c.turn.new.link)) (sym p.1)
           (polls_next begun c.args.order.now c.loop-number.number-index (get_or c.args.order.now c.loop-number.number-index 0) xs p.0 _ _ _ there
-          (length_take c.args.order.now c.loop-number.number-index (get_or c.args.order.now c.loop-number.number-index 0) there ∙ sym c.loop-number.invariant.turns) (c.loop-number.invariant.polled first begun ts does at drawn before)
-          (p.2 first begun ts (take c.loop-number.number-index c.args.order.now) (c.loop-number.invariant.rows ts at) (c.loop-number.invariant.drawn first ts does drawn) (c.loop-number.invariant.told first begun ts does at drawn before)));
+          (length_take c.args.order.now c.loop-number.number-index (get_or c.args.order.now c.loop-number.number-index 0) there ∙ sym c.loop-number.invariant.turns) (c.loop-number.invariant.polled supply begun ts its does at drawn before)
+          (p.2 supply begun ts (take c.loop-number.number-index c.args.order.now) (c.loop-number.invariant.rows ts at) (c.loop-number.invariant.drawn supply.ids ts does drawn) (c.loop-number.invariant.told supply begun ts its does at drawn before)));
       tasks = λ ts does. c.turn.ensures.tasks ts (c.loop-number.invariant.tasks ts does);
     }
 
@@ -71,12 +71,12 @@ pub returns-clause-stopped : goal.returns-clause-stopped
 returns-clause-stopped g c = λ first ts does before. (c.loop-number.number-index, (c.loop-number.invariant.drawn first ts does before).stands)
 
 pub returns-clause-told : goal.returns-clause-told
-returns-clause-told g c = λ first begun ts does at drawn before.
-    tell_whole first (g.L.Link.awaited c.loop-number.link) begun (g.L.Link.log c.loop-number.link) (g.L.Link.wire c.loop-number.link) ts c.args.order.now c.loop-number.number-index c.loop-number.runner.turns.items c.loop-number.runner.players.items (omega (arith, c.loop-number-test.false)) (c.loop-number.invariant.told first begun ts does at drawn before)
+returns-clause-told g c = λ supply begun ts its does at drawn before.
+    tell_whole supply (g.L.Link.awaited c.loop-number.link) begun (g.L.Link.log c.loop-number.link) (g.L.Link.wire c.loop-number.link) ts c.args.order.now c.loop-number.number-index c.loop-number.runner.turns.items c.loop-number.runner.players.items (omega (arith, c.loop-number-test.false)) (c.loop-number.invariant.told supply begun ts its does at drawn before)
 
 pub returns-clause-polled : goal.returns-clause-polled
-returns-clause-polled g c = λ first begun ts does at drawn before.
-    polls_whole begun c.args.order.now c.loop-number.number-index c.loop-number.runner.turns.items _ _ (omega (arith, c.loop-number-test.false)) (c.loop-number.invariant.polled first begun ts does at drawn before)
+returns-clause-polled g c = λ supply begun ts its does at drawn before.
+    polls_whole begun c.args.order.now c.loop-number.number-index c.loop-number.runner.turns.items _ _ (omega (arith, c.loop-number-test.false)) (c.loop-number.invariant.polled supply begun ts its does at drawn before)
 
 pub loop-number-init : goal.loop-number-init
 loop-number-init g c =
@@ -94,7 +94,7 @@ loop-number-init g c =
       knowing = λ begun knowing. knowing;
       rows = λ ts rows. subst (λ (ns : List Turned). AllAt ts [] ns c.args.runner.now.players.items) (sym none) rows;
       drawn = λ first ts does drawn. drawn;
-      told = λ first begun ts does at drawn told. subst (λ (ns : List Turned). AllTell first (g.L.Link.awaited c.args.link.now) begun (g.L.Link.log c.args.link.now) (g.L.Link.wire c.args.link.now) ts [] ns c.args.runner.now.players.items) (sym none) told;
-      polled = λ first begun ts does at drawn told. subst (λ (ns : List Turned). AllPollOwn begun [] ns (g.L.Link.polls c.args.link.now) (g.L.Link.polls c.args.link.now)) (sym none) (λ calls is place. refl);
+      told = λ supply begun ts its does at drawn told. subst (λ (ns : List Turned). AllTell supply (g.L.Link.awaited c.args.link.now) begun (g.L.Link.log c.args.link.now) (g.L.Link.wire c.args.link.now) ts [] ns c.args.runner.now.players.items) (sym none) told;
+      polled = λ supply begun ts its does at drawn told. subst (λ (ns : List Turned). AllPollOwn begun [] ns (g.L.Link.polls c.args.link.now) (g.L.Link.polls c.args.link.now)) (sym none) (λ calls is place. refl);
       tasks = λ ts does. does;
     }

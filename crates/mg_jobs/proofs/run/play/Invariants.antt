@@ -7,6 +7,7 @@ use Rattle.mg_players.specs.Drawing.{HaveDrawn}
 use Rattle.mg_players.specs.Headline.{DoTasks, Knowing}
 use Rattle.mg_script.specs.Plan.{Task}
 use Rattle.mg_players.specs.Progress.{AllAt}
+use Rattle.mg_players.specs.Puts.{IsMoment, Supply}
 use Rattle.mg_players.specs.Runs.{AreHeld}
 use Rattle.mg_jobs.specs.Runners.{Stands}
 use Rattle.mg_players.specs.Telling.{AllTell}
@@ -27,9 +28,9 @@ invariant-loop-number g l = record {
   knowing : (begun : LogTold) → Knowing (g.L.Link.awaited l.initial.link) begun (g.L.Link.log l.initial.link) l.initial.runner.players.items → Knowing (g.L.Link.awaited l.link) begun (g.L.Link.log l.link) l.runner.players.items;
   rows : (ts : List Task) → AllAt ts [] [] l.initial.runner.players.items → AllAt ts (take l.number-index l.fn.order) l.runner.turns.items l.runner.players.items;
   drawn : (first : ℕ → List ℕ) (ts : List Task) → DoTasks ts l.initial.runner.players.items → HaveDrawn first (g.I.IdSource.ids l.initial.ids) ts [] l.initial.runner.players.items → HaveDrawn first (g.I.IdSource.ids l.ids) ts (take l.number-index l.fn.order) l.runner.players.items;
-  told : (first : ℕ → List ℕ) (begun : LogTold) (ts : List Task) → DoTasks ts l.initial.runner.players.items → AllAt ts [] [] l.initial.runner.players.items → HaveDrawn first (g.I.IdSource.ids l.initial.ids) ts [] l.initial.runner.players.items → AllTell first (g.L.Link.awaited l.initial.link) begun (g.L.Link.log l.initial.link) (g.L.Link.wire l.initial.link) ts [] [] l.initial.runner.players.items
-      → AllTell first (g.L.Link.awaited l.link) begun (g.L.Link.log l.link) (g.L.Link.wire l.link) ts (take l.number-index l.fn.order) l.runner.turns.items l.runner.players.items;
-  polled : (first : ℕ → List ℕ) (begun : LogTold) (ts : List Task) → DoTasks ts l.initial.runner.players.items → AllAt ts [] [] l.initial.runner.players.items → HaveDrawn first (g.I.IdSource.ids l.initial.ids) ts [] l.initial.runner.players.items → AllTell first (g.L.Link.awaited l.initial.link) begun (g.L.Link.log l.initial.link) (g.L.Link.wire l.initial.link) ts [] [] l.initial.runner.players.items
+  told : (supply : Supply) (begun : LogTold) (ts : List Task) → IsMoment supply.moment l.fn.moment.millis → DoTasks ts l.initial.runner.players.items → AllAt ts [] [] l.initial.runner.players.items → HaveDrawn supply.ids (g.I.IdSource.ids l.initial.ids) ts [] l.initial.runner.players.items → AllTell supply (g.L.Link.awaited l.initial.link) begun (g.L.Link.log l.initial.link) (g.L.Link.wire l.initial.link) ts [] [] l.initial.runner.players.items
+      → AllTell supply (g.L.Link.awaited l.link) begun (g.L.Link.log l.link) (g.L.Link.wire l.link) ts (take l.number-index l.fn.order) l.runner.turns.items l.runner.players.items;
+  polled : (supply : Supply) (begun : LogTold) (ts : List Task) → IsMoment supply.moment l.fn.moment.millis → DoTasks ts l.initial.runner.players.items → AllAt ts [] [] l.initial.runner.players.items → HaveDrawn supply.ids (g.I.IdSource.ids l.initial.ids) ts [] l.initial.runner.players.items → AllTell supply (g.L.Link.awaited l.initial.link) begun (g.L.Link.log l.initial.link) (g.L.Link.wire l.initial.link) ts [] [] l.initial.runner.players.items
       → AllPollOwn begun (take l.number-index l.fn.order) l.runner.turns.items (g.L.Link.polls l.initial.link) (g.L.Link.polls l.link);
   tasks : (ts : List Task) → DoTasks ts l.initial.runner.players.items → DoTasks ts l.runner.players.items;
 }

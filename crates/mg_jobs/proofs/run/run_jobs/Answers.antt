@@ -7,11 +7,12 @@ use Rattle.mg_script.specs.Plan.{task, tasks}
 use Rattle.mg_players.proofs.Knowing.{knowing_first}
 use Rattle.mg_players.proofs.Advancing.{rows_so}
 use Rattle.mg_jobs.proofs.Completing.{well_so}
+use Rattle.mg_players.specs.Drawing.{supplied}
 use Rattle.mg_players.proofs.Drawing.{drawn_first, drawn_so}
 use Rattle.mg_jobs.proofs.Waiting.{wait_so}
 use Rattle.mg_jobs.proofs.Polling.{polls_so}
 use Rattle.mg_jobs.proofs.Tallies.{noted_so, pended_so}
-use Rattle.mg_jobs.proofs.Told.{caused_so, filed_so, followed_so, sends_so, tell_as, tell_first}
+use Rattle.mg_jobs.proofs.Told.{caused_so, filed_so, followed_so, names_so, sends_so, tell_as, tell_first}
 use Rattle.mg_jobs.proofs.run.run_jobs.Goals as goal
 
 pub play-requires-clause-jobs : goal.play-requires-clause-jobs
@@ -23,9 +24,9 @@ pub returns-clause-followed : goal.returns-clause-followed
 returns-clause-followed g c =
     let jobs = c.in_ok-runner.ensures.jobs ∙ sym (length-map c.args.jobs.now task) in
     let first = drawn_first (g.I.IdSource.ids c.args.ids.now) (tasks c.args.jobs.now) c.in_ok-runner.runner.players.items jobs c.in_ok-runner.ensures.first in
-    followed_so (g.I.IdSource.ids c.args.ids.now) (g.I.IdSource.ids c.play.new.ids) _ _ _ _ (tasks c.args.jobs.now) c.args.order.now c.play.new.runner.turns.items c.play.new.runner.players.items c.into_played.result c.into_played.ensures.outcomes c.into_played.ensures.each c.into_played.ensures.turns
+    followed_so (supplied (g.I.IdSource.ids c.args.ids.now) c.args.moment.millis) (g.I.IdSource.ids c.play.new.ids) _ _ _ _ (tasks c.args.jobs.now) c.args.order.now c.play.new.runner.turns.items c.play.new.runner.players.items c.into_played.result c.into_played.ensures.outcomes c.into_played.ensures.each c.into_played.ensures.turns
     (c.in_ok-play.ensures.drawn _ (tasks c.args.jobs.now) c.in_ok-runner.ensures.tasks first)
-    (c.in_ok-play.ensures.told _ (g.L.Link.log c.args.link.now) (tasks c.args.jobs.now) c.in_ok-runner.ensures.tasks c.in_ok-runner.ensures.at first (tell_first _ _ _ _ (tasks c.args.jobs.now) c.in_ok-runner.runner.players.items c.in_ok-runner.ensures.first))
+    (c.in_ok-play.ensures.told (supplied (g.I.IdSource.ids c.args.ids.now) c.args.moment.millis) (g.L.Link.log c.args.link.now) (tasks c.args.jobs.now) refl c.in_ok-runner.ensures.tasks c.in_ok-runner.ensures.at first (tell_first _ _ _ _ (tasks c.args.jobs.now) c.in_ok-runner.runner.players.items c.in_ok-runner.ensures.first))
     (c.in_ok-play.ensures.rows _ c.in_ok-runner.ensures.at) (c.play.ensures.tasks _ c.in_ok-runner.ensures.tasks)
     (c.play.ensures.knowing _ (knowing_first _ _ c.in_ok-runner.runner.players.items c.in_ok-runner.ensures.first))
 
@@ -33,9 +34,9 @@ pub returns-clause-filed : goal.returns-clause-filed
 returns-clause-filed g c =
     let jobs = c.in_ok-runner.ensures.jobs ∙ sym (length-map c.args.jobs.now task) in
     let first = drawn_first (g.I.IdSource.ids c.args.ids.now) (tasks c.args.jobs.now) c.in_ok-runner.runner.players.items jobs c.in_ok-runner.ensures.first in
-    filed_so (g.I.IdSource.ids c.args.ids.now) (g.I.IdSource.ids c.play.new.ids) _ _ _ _ (tasks c.args.jobs.now) c.args.order.now c.play.new.runner.turns.items c.play.new.runner.players.items c.into_played.result c.into_played.ensures.outcomes c.into_played.ensures.each c.into_played.ensures.turns
+    filed_so (supplied (g.I.IdSource.ids c.args.ids.now) c.args.moment.millis) (g.I.IdSource.ids c.play.new.ids) _ _ _ _ (tasks c.args.jobs.now) c.args.order.now c.play.new.runner.turns.items c.play.new.runner.players.items c.into_played.result c.into_played.ensures.outcomes c.into_played.ensures.each c.into_played.ensures.turns
     (c.in_ok-play.ensures.drawn _ (tasks c.args.jobs.now) c.in_ok-runner.ensures.tasks first)
-    (c.in_ok-play.ensures.told _ (g.L.Link.log c.args.link.now) (tasks c.args.jobs.now) c.in_ok-runner.ensures.tasks c.in_ok-runner.ensures.at first (tell_first _ _ _ _ (tasks c.args.jobs.now) c.in_ok-runner.runner.players.items c.in_ok-runner.ensures.first))
+    (c.in_ok-play.ensures.told (supplied (g.I.IdSource.ids c.args.ids.now) c.args.moment.millis) (g.L.Link.log c.args.link.now) (tasks c.args.jobs.now) refl c.in_ok-runner.ensures.tasks c.in_ok-runner.ensures.at first (tell_first _ _ _ _ (tasks c.args.jobs.now) c.in_ok-runner.runner.players.items c.in_ok-runner.ensures.first))
     (c.in_ok-play.ensures.rows _ c.in_ok-runner.ensures.at) (c.play.ensures.tasks _ c.in_ok-runner.ensures.tasks)
 
 pub returns-in_err-play-clause-naming : goal.returns-in_err-play-clause-naming
@@ -71,19 +72,19 @@ pub returns-clause-caused : goal.returns-clause-caused
 returns-clause-caused g c =
     let jobs = c.in_ok-runner.ensures.jobs ∙ sym (length-map c.args.jobs.now task) in
     let first = drawn_first (g.I.IdSource.ids c.args.ids.now) (tasks c.args.jobs.now) c.in_ok-runner.runner.players.items jobs c.in_ok-runner.ensures.first in
-    caused_so (g.I.IdSource.ids c.args.ids.now) (g.I.IdSource.ids c.play.new.ids) _ _ _ _ (tasks c.args.jobs.now) c.args.order.now c.play.new.runner.turns.items c.play.new.runner.players.items c.into_played.result c.into_played.ensures.outcomes c.into_played.ensures.each c.into_played.ensures.turns
+    caused_so (supplied (g.I.IdSource.ids c.args.ids.now) c.args.moment.millis) (g.I.IdSource.ids c.play.new.ids) _ _ _ _ (tasks c.args.jobs.now) c.args.order.now c.play.new.runner.turns.items c.play.new.runner.players.items c.into_played.result c.into_played.ensures.outcomes c.into_played.ensures.each c.into_played.ensures.turns
     (c.in_ok-play.ensures.drawn _ (tasks c.args.jobs.now) c.in_ok-runner.ensures.tasks first)
     (tell_as _ _ _ _ _ _ (tasks c.args.jobs.now) c.args.order.now c.play.new.runner.turns.items c.play.new.runner.players.items (sym c.play.ensures.later.wire)
-    (c.in_ok-play.ensures.told _ (g.L.Link.log c.args.link.now) (tasks c.args.jobs.now) c.in_ok-runner.ensures.tasks c.in_ok-runner.ensures.at first (tell_first _ _ _ _ (tasks c.args.jobs.now) c.in_ok-runner.runner.players.items c.in_ok-runner.ensures.first)))
+    (c.in_ok-play.ensures.told (supplied (g.I.IdSource.ids c.args.ids.now) c.args.moment.millis) (g.L.Link.log c.args.link.now) (tasks c.args.jobs.now) refl c.in_ok-runner.ensures.tasks c.in_ok-runner.ensures.at first (tell_first _ _ _ _ (tasks c.args.jobs.now) c.in_ok-runner.runner.players.items c.in_ok-runner.ensures.first)))
     (c.in_ok-play.ensures.rows _ c.in_ok-runner.ensures.at) (c.play.ensures.tasks _ c.in_ok-runner.ensures.tasks)
 
 pub returns-clause-waits_alone : goal.returns-clause-waits_alone
 returns-clause-waits_alone g c =
     let jobs = c.in_ok-runner.ensures.jobs ∙ sym (length-map c.args.jobs.now task) in
     let first = drawn_first (g.I.IdSource.ids c.args.ids.now) (tasks c.args.jobs.now) c.in_ok-runner.runner.players.items jobs c.in_ok-runner.ensures.first in
-    wait_so (g.I.IdSource.ids c.args.ids.now) (g.I.IdSource.ids c.play.new.ids) (g.L.Link.awaited c.args.link.now) _ _ _ _ (tasks c.args.jobs.now) c.args.order.now c.play.new.runner.turns.items c.play.new.runner.players.items c.into_played.result c.into_played.ensures.turns
+    wait_so (supplied (g.I.IdSource.ids c.args.ids.now) c.args.moment.millis) (g.I.IdSource.ids c.play.new.ids) (g.L.Link.awaited c.args.link.now) _ _ _ _ (tasks c.args.jobs.now) c.args.order.now c.play.new.runner.turns.items c.play.new.runner.players.items c.into_played.result c.into_played.ensures.turns
     (c.in_ok-play.ensures.drawn _ (tasks c.args.jobs.now) c.in_ok-runner.ensures.tasks first)
-    (c.in_ok-play.ensures.told _ (g.L.Link.log c.args.link.now) (tasks c.args.jobs.now) c.in_ok-runner.ensures.tasks c.in_ok-runner.ensures.at first (tell_first _ _ _ _ (tasks c.args.jobs.now) c.in_ok-runner.runner.players.items c.in_ok-runner.ensures.first))
+    (c.in_ok-play.ensures.told (supplied (g.I.IdSource.ids c.args.ids.now) c.args.moment.millis) (g.L.Link.log c.args.link.now) (tasks c.args.jobs.now) refl c.in_ok-runner.ensures.tasks c.in_ok-runner.ensures.at first (tell_first _ _ _ _ (tasks c.args.jobs.now) c.in_ok-runner.runner.players.items c.in_ok-runner.ensures.first))
     (c.in_ok-play.ensures.rows _ c.in_ok-runner.ensures.at)
     (c.play.ensures.none_lost (g.L.Link.awaited c.args.link.now) (λ ticket out. inr refl))
 
@@ -98,16 +99,23 @@ returns-clause-polled g c =
     let jobs = c.in_ok-runner.ensures.jobs ∙ sym (length-map c.args.jobs.now task) in
     let first = drawn_first (g.I.IdSource.ids c.args.ids.now) (tasks c.args.jobs.now) c.in_ok-runner.runner.players.items jobs c.in_ok-runner.ensures.first in
     polls_so c.into_played.result _ c.args.order.now c.play.new.runner.turns.items _ _ c.into_played.ensures.turns
-    (c.in_ok-play.ensures.polled _ (g.L.Link.log c.args.link.now) (tasks c.args.jobs.now) c.in_ok-runner.ensures.tasks c.in_ok-runner.ensures.at first (tell_first _ _ _ _ (tasks c.args.jobs.now) c.in_ok-runner.runner.players.items c.in_ok-runner.ensures.first))
+    (c.in_ok-play.ensures.polled (supplied (g.I.IdSource.ids c.args.ids.now) c.args.moment.millis) (g.L.Link.log c.args.link.now) (tasks c.args.jobs.now) refl c.in_ok-runner.ensures.tasks c.in_ok-runner.ensures.at first (tell_first _ _ _ _ (tasks c.args.jobs.now) c.in_ok-runner.runner.players.items c.in_ok-runner.ensures.first))
 
 pub returns-clause-sends : goal.returns-clause-sends
 returns-clause-sends g c =
     let jobs = c.in_ok-runner.ensures.jobs ∙ sym (length-map c.args.jobs.now task) in
     let first = drawn_first (g.I.IdSource.ids c.args.ids.now) (tasks c.args.jobs.now) c.in_ok-runner.runner.players.items jobs c.in_ok-runner.ensures.first in
-    sends_so (g.I.IdSource.ids c.args.ids.now) (g.I.IdSource.ids c.play.new.ids) _ _ _ _ (tasks c.args.jobs.now) c.args.order.now c.play.new.runner.turns.items c.play.new.runner.players.items c.into_played.result c.into_played.ensures.turns
+    sends_so (supplied (g.I.IdSource.ids c.args.ids.now) c.args.moment.millis) (g.I.IdSource.ids c.play.new.ids) _ _ _ _ (tasks c.args.jobs.now) c.args.order.now c.play.new.runner.turns.items c.play.new.runner.players.items c.into_played.result c.into_played.ensures.turns
     (c.in_ok-play.ensures.drawn _ (tasks c.args.jobs.now) c.in_ok-runner.ensures.tasks first)
-    (c.in_ok-play.ensures.told _ (g.L.Link.log c.args.link.now) (tasks c.args.jobs.now) c.in_ok-runner.ensures.tasks c.in_ok-runner.ensures.at first (tell_first _ _ _ _ (tasks c.args.jobs.now) c.in_ok-runner.runner.players.items c.in_ok-runner.ensures.first))
+    (c.in_ok-play.ensures.told (supplied (g.I.IdSource.ids c.args.ids.now) c.args.moment.millis) (g.L.Link.log c.args.link.now) (tasks c.args.jobs.now) refl c.in_ok-runner.ensures.tasks c.in_ok-runner.ensures.at first (tell_first _ _ _ _ (tasks c.args.jobs.now) c.in_ok-runner.runner.players.items c.in_ok-runner.ensures.first))
     (c.play.ensures.tasks _ c.in_ok-runner.ensures.tasks)
 
+pub returns-clause-names : goal.returns-clause-names
+returns-clause-names g c =
+    let jobs = c.in_ok-runner.ensures.jobs ∙ sym (length-map c.args.jobs.now task) in
+    let first = drawn_first (g.I.IdSource.ids c.args.ids.now) (tasks c.args.jobs.now) c.in_ok-runner.runner.players.items jobs c.in_ok-runner.ensures.first in
+    names_so (supplied (g.I.IdSource.ids c.args.ids.now) c.args.moment.millis) _ _ _ _ (tasks c.args.jobs.now) c.args.order.now c.play.new.runner.turns.items c.play.new.runner.players.items c.into_played.result c.into_played.ensures.turns
+    (c.in_ok-play.ensures.told (supplied (g.I.IdSource.ids c.args.ids.now) c.args.moment.millis) (g.L.Link.log c.args.link.now) (tasks c.args.jobs.now) refl c.in_ok-runner.ensures.tasks c.in_ok-runner.ensures.at first (tell_first _ _ _ _ (tasks c.args.jobs.now) c.in_ok-runner.runner.players.items c.in_ok-runner.ensures.first))
+
 pub returns-clause-complete : goal.returns-clause-complete
-returns-clause-complete g c = λ prompt. well_so _ _ _ _ _ (tasks c.args.jobs.now) c.args.order.now c.into_played.result (c.in_ok-play.ensures.lossless prompt) (returns-clause-caused g c) (returns-clause-rows g c) (returns-clause-filed g c) (returns-clause-sends g c)
+returns-clause-complete g c = λ prompt. well_so (supplied (g.I.IdSource.ids c.args.ids.now) c.args.moment.millis) _ _ _ _ (tasks c.args.jobs.now) c.args.order.now c.into_played.result (c.in_ok-play.ensures.lossless prompt) (returns-clause-caused g c) (returns-clause-rows g c) (returns-clause-filed g c) (returns-clause-sends g c)

@@ -3,13 +3,13 @@ use Rattle.mg_link.specs.Acts.{IsOut, Tickets}
 use Rattle.mg_link.proofs.Onward.{tickets_same}
 use Rattle.mg_players.proofs.Knowing.{turned_not, turned_ready}
 use Rattle.mg_players.specs.Counts.{PolledNewest, was_held}
-use Rattle.mg_players.specs.Drawing.{DrawsAs, JobHasIds}
+use Rattle.mg_players.specs.Drawing.{DrawsAs, DrawsAt, JobHasIds}
 use Rattle.mg_players.proofs.Advancing.{over_turns}
 use Rattle.mg_players.proofs.Drawing.{ended_draws, ended_has}
-use Rattle.mg_players.proofs.JobTelling.{quiet_turn, ready_turn, tells_same_job}
+use Rattle.mg_players.proofs.JobTelling.{quiet_turn, ready_turn, tells_narrow, tells_same_job}
 use Rattle.mg_players.specs.Headline.{Plays, task_of}
 use Rattle.mg_players.specs.Playing.{job_ticket}
-use Rattle.mg_players.specs.Plays.{AnySent, no_move}
+use Rattle.mg_players.specs.Plays.{SentAt, no_move}
 use Rattle.mg_players.specs.Progress.{GoesBy}
 use Rattle.mg_players.specs.Runs.{CanGo, Goes, IsReady}
 use Rattle.mg_players.specs.Telling.{JobTells, number_of}
@@ -18,7 +18,7 @@ use Rattle.mg_jobs.proofs.run.turn_of.Goals as goal
 
 pub returns-then-has_ended-clause-goes : goal.returns-then-has_ended-clause-goes
 returns-then-has_ended-clause-goes g c =
-    let so = DrawsAs (g.I.IdSource.ids c.args.ids.now) c.args.player.now in
+    let so = DrawsAt (g.I.IdSource.ids c.args.ids.now) c.args.moment.millis c.args.player.now in
     record {
       tickets = tickets_same _ _ c.requires.out;
       holds = c.requires.holds;
@@ -37,7 +37,8 @@ returns-in_err-ready-clause-goes g c =
       holds = got.holds (g.L.Link.wire c.args.link.now) c.requires.holds;
       next = no_move;
       turned = turned_not _ _ c.args.player.now c.ready.new.self (got.knows _);
-      told = quiet_turn task_of Plays JobTells number_of (DrawsAs (g.I.IdSource.ids c.args.ids.now) c.args.player.now) _ _ _ c.args.player.now c.ready.new.self got.tells;
+      told = quiet_turn task_of Plays JobTells number_of (DrawsAt (g.I.IdSource.ids c.args.ids.now) c.args.moment.millis c.args.player.now) _ _ _ c.args.player.now c.ready.new.self
+          (tells_narrow (DrawsAs (g.I.IdSource.ids c.args.ids.now) c.args.player.now) (DrawsAt (g.I.IdSource.ids c.args.ids.now) c.args.moment.millis c.args.player.now) c.args.player.now c.ready.new.self (λ supply t both. both.0) got.tells);
       task = got.task;
       has = got.has;
     }
@@ -55,13 +56,13 @@ returns-clause-goes g c =
     let got = c.in_ok-ready.ensures.got in
     let link = c.replace_with-gone.new.dest in
     let after = c.replace_with-gone.result.player in
-    let goes = subst (λ (p : Player). Goes AnySent (g.L.Link.awaited c.args.link.now) (g.L.Link.awaited link) (g.L.Link.log c.args.link.now) (g.L.Link.log link) (g.L.Link.wire link) p after) c.replace-taken.ensures.value c.replace_with-gone.ensures.0 in
+    let goes = subst (λ (p : Player). Goes (SentAt c.args.moment.millis) (g.L.Link.awaited c.args.link.now) (g.L.Link.awaited link) (g.L.Link.log c.args.link.now) (g.L.Link.log link) (g.L.Link.wire link) p after) c.replace-taken.ensures.value c.replace_with-gone.ensures.0 in
     record {
       tickets = subst (λ t. Tickets (g.L.Link.awaited c.args.link.now) (g.L.Link.awaited link) t (job_ticket after)) got.ticket goes.tickets;
       holds = goes.holds;
       next = goes.next;
       turned = turned_ready _ _ _ _ c.args.player.now c.ready.new.self after _ got.knows goes.turned;
-      told = ready_turn (DrawsAs (g.I.IdSource.ids c.args.ids.now) c.args.player.now) _ _ _ _ _ c.args.player.now c.ready.new.self after _ got.task got.knows got.tells goes.told;
+      told = ready_turn (DrawsAs (g.I.IdSource.ids c.args.ids.now) c.args.player.now) (SentAt c.args.moment.millis) _ _ _ _ _ c.args.player.now c.ready.new.self after _ got.task got.knows got.tells goes.told;
       task = goes.task ∙ got.task;
       has = λ has. goes.has (got.has has);
     }

@@ -137,16 +137,16 @@ returns-clause-drawn g c = λ first ts order does drawn.
     drawn_on first (g.I.IdSource.ids c.args.ids.now) (g.I.IdSource.ids c.turn_of.new.ids) ts order c.args.self.now.players.items c.args.job c.index_mut-player.result.now c.turn_of.new.player at does c.in_ok-note.ensures.draws.drawn c.in_ok-note.ensures.draws.has drawn
 
 pub returns-clause-told : goal.returns-clause-told
-returns-clause-told g c = λ first begun ts order same all drawn tell.
+returns-clause-told g c = λ supply begun ts order its same all drawn tell.
     let ok = c.args.self.now.players.ok.0 in
     let within : c.args.job < length c.args.self.now.players.items = omega (arith, c.len.ensures, c.if-at-len.false) in
     let at = slice_get_read c.args.self.now.players.items (length c.args.self.now.players.items) c.args.job c.index_mut-player.result.now refl within c.index_mut-player.ensures.value in
-    subst (λ (ns : List Turned). AllTell first (g.L.Link.awaited c.turn_of.new.link) begun (g.L.Link.log c.turn_of.new.link) (g.L.Link.wire c.turn_of.new.link) ts (order ++ c.args.job ∷ []) ns (slice_set c.args.self.now.players.items c.args.job c.turn_of.new.player))
+    subst (λ (ns : List Turned). AllTell supply (g.L.Link.awaited c.turn_of.new.link) begun (g.L.Link.log c.turn_of.new.link) (g.L.Link.wire c.turn_of.new.link) ts (order ++ c.args.job ∷ []) ns (slice_set c.args.self.now.players.items c.args.job c.turn_of.new.player))
     (sym (c.push_reserved.ensures ∙ ap (λ l. l ++ c.in_ok-note.note ∷ []) c.in_ok-reserve.ensures.items))
-    (all_turn (g.I.IdSource.ids c.args.ids.now) (g.L.Link.awaited c.args.link.now) (g.L.Link.awaited c.turn_of.new.link) (g.L.Link.log c.args.link.now) (g.L.Link.log c.turn_of.new.link) (g.L.Link.wire c.turn_of.new.link) c.args.self.now.players.items c.args.job c.index_mut-player.result.now c.turn_of.new.player at
+    (all_turn (g.I.IdSource.ids c.args.ids.now) c.args.moment.millis (g.L.Link.awaited c.args.link.now) (g.L.Link.awaited c.turn_of.new.link) (g.L.Link.log c.args.link.now) (g.L.Link.log c.turn_of.new.link) (g.L.Link.wire c.turn_of.new.link) c.args.self.now.players.items c.args.job c.index_mut-player.result.now c.turn_of.new.player at
     (apart_as _ _ _ c.args.self.now.players.items c.turn_of.ensures.later.wire c.requires) c.turn_of.ensures.goes c.in_ok-note.note c.in_ok-note.ensures.noted.starts c.in_ok-note.ensures.noted.stays
     (λ over. let idles = c.in_ok-note.ensures.ended over in let is : c.in_ok-note.note ≡ idle = cc idles.0 in ap (λ (n : Turned). n.started) is)
-    c.in_ok-note.ensures.polled.holds first begun ts order c.args.self.now.turns.items same all drawn (tell_as _ _ _ _ _ _ ts order c.args.self.now.turns.items c.args.self.now.players.items c.turn_of.ensures.later.wire tell))
+    c.in_ok-note.ensures.polled.holds supply its begun ts order c.args.self.now.turns.items same all drawn (tell_as _ _ _ _ _ _ ts order c.args.self.now.turns.items c.args.self.now.players.items c.turn_of.ensures.later.wire tell))
 
 pub returns-clause-polled : goal.returns-clause-polled
 returns-clause-polled g c =
@@ -155,7 +155,7 @@ returns-clause-polled g c =
     let at = slice_get_read c.args.self.now.players.items (length c.args.self.now.players.items) c.args.job c.index_mut-player.result.now refl within c.index_mut-player.ensures.value in (
       c.in_ok-note.note,
       c.push_reserved.ensures ∙ ap (λ l. l ++ c.in_ok-note.note ∷ []) c.in_ok-reserve.ensures.items,
-      λ first begun ts order all drawn tell.
-          polls_turn first (g.I.IdSource.ids c.args.ids.now) (g.L.Link.awaited c.args.link.now) (g.L.Link.log c.args.link.now) (g.L.Link.log c.turn_of.new.link) (g.L.Link.wire c.args.link.now) ts order c.args.self.now.turns.items c.args.self.now.players.items c.args.job c.index_mut-player.result.now c.in_ok-note.note
+      λ supply begun ts order all drawn tell.
+          polls_turn supply (g.I.IdSource.ids c.args.ids.now) (g.L.Link.awaited c.args.link.now) (g.L.Link.log c.args.link.now) (g.L.Link.log c.turn_of.new.link) (g.L.Link.wire c.args.link.now) ts order c.args.self.now.turns.items c.args.self.now.players.items c.args.job c.index_mut-player.result.now c.in_ok-note.note
           (g.L.Link.polls c.args.link.now) (g.L.Link.polls c.turn_of.new.link) begun at c.in_ok-note.ensures.noted.starts all drawn tell c.in_ok-note.ensures.polled.polled,
     )

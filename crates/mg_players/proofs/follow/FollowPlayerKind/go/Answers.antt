@@ -36,7 +36,7 @@ close-next-requires-clause-holds g c = subst StageHolds (sym c.replace-stage.ens
 
 pub returns-in-Unopened-clause-goes : goal.returns-in-Unopened-clause-goes
 returns-in-Unopened-clause-goes g c =
-    follow_goes c.args.self _ c.begin-next.new.self c.moved_to.result stage.Unopened c.begin-next.result (sym c.in-Unopened.is ∙ c.replace-stage.ensures.value) c.moved_to.ensures _ _ _ _ _ _ c.begin-next.ensures.turned.next (record { watched = refl; opened = refl; answers = refl; token = refl }) refl c.begin-next.ensures.later.wire c.begin-next.ensures.tickets c.begin-next.ensures.holds c.begin-next.ensures.turned.turned
+    follow_goes _ c.args.self _ c.begin-next.new.self c.moved_to.result stage.Unopened c.begin-next.result (sym c.in-Unopened.is ∙ c.replace-stage.ensures.value) c.moved_to.ensures _ _ _ _ _ _ c.begin-next.ensures.turned.next (record { watched = refl; opened = refl; answers = refl; token = refl }) refl c.begin-next.ensures.later.wire c.begin-next.ensures.tickets c.begin-next.ensures.holds c.begin-next.ensures.turned.turned
     c.begin-next.ensures.turned.told c.begin-next.ensures.watched
 
 pub returns-in-Unopened-clause-comes : goal.returns-in-Unopened-clause-comes
@@ -44,7 +44,7 @@ returns-in-Unopened-clause-comes g c = follow_comes c.args.self c.args.self c.be
 
 pub returns-in-Opens-clause-goes : goal.returns-in-Opens-clause-goes
 returns-in-Opens-clause-goes g c =
-    follow_goes c.args.self _ c.open-next.new.self c.moved_to-in-Opens.result (stage.Opens c.in-Opens.opening) c.open-next.result (sym c.in-Opens.is ∙ c.replace-stage.ensures.value) c.moved_to-in-Opens.ensures _ _ _ _ _ _ c.open-next.ensures.turned.next (record { watched = refl; opened = refl; answers = refl; token = refl }) refl c.open-next.ensures.later.wire c.open-next.ensures.tickets c.open-next.ensures.holds c.open-next.ensures.turned.turned
+    follow_goes _ c.args.self _ c.open-next.new.self c.moved_to-in-Opens.result (stage.Opens c.in-Opens.opening) c.open-next.result (sym c.in-Opens.is ∙ c.replace-stage.ensures.value) c.moved_to-in-Opens.ensures _ _ _ _ _ _ c.open-next.ensures.turned.next (record { watched = refl; opened = refl; answers = refl; token = refl }) refl c.open-next.ensures.later.wire c.open-next.ensures.tickets c.open-next.ensures.holds c.open-next.ensures.turned.turned
     c.open-next.ensures.turned.told c.open-next.ensures.watched
 
 pub returns-in-Opens-clause-comes : goal.returns-in-Opens-clause-comes
@@ -52,7 +52,7 @@ returns-in-Opens-clause-comes g c = follow_comes c.args.self c.args.self c.open-
 
 pub returns-in-Open-clause-goes : goal.returns-in-Open-clause-goes
 returns-in-Open-clause-goes g c =
-    follow_goes c.args.self _ c.ask-next.new.self c.moved_to-in-Open.result (stage.Open c.in-Open.stream) c.ask-next.result (sym c.in-Open.is ∙ c.replace-stage.ensures.value) c.moved_to-in-Open.ensures _ _ _ _ _ _ same_place (record { watched = refl; opened = refl; answers = refl; token = refl }) refl c.ask-next.ensures.later.wire c.ask-next.ensures.tickets c.ask-next.ensures.holds c.ask-next.ensures.turned
+    follow_goes _ c.args.self _ c.ask-next.new.self c.moved_to-in-Open.result (stage.Open c.in-Open.stream) c.ask-next.result (sym c.in-Open.is ∙ c.replace-stage.ensures.value) c.moved_to-in-Open.ensures _ _ _ _ _ _ same_place (record { watched = refl; opened = refl; answers = refl; token = refl }) refl c.ask-next.ensures.later.wire c.ask-next.ensures.tickets c.ask-next.ensures.holds c.ask-next.ensures.turned
     c.ask-next.ensures.told c.ask-next.ensures.watched
 
 pub returns-in-Open-clause-comes : goal.returns-in-Open-clause-comes
@@ -60,7 +60,7 @@ returns-in-Open-clause-comes g c = follow_comes c.args.self c.args.self c.ask-ne
 
 pub returns-in-Closes-clause-goes : goal.returns-in-Closes-clause-goes
 returns-in-Closes-clause-goes g c =
-    follow_goes c.args.self _ c.close-next.new.self c.moved_to-in-Closes.result (stage.Closes c.in-Closes.closing) c.close-next.result (sym c.in-Closes.is ∙ c.replace-stage.ensures.value) c.moved_to-in-Closes.ensures _ _ _ _ _ _ same_place (record { watched = refl; opened = refl; answers = refl; token = refl }) refl c.close-next.ensures.later.wire c.close-next.ensures.tickets c.close-next.ensures.holds c.close-next.ensures.turned
+    follow_goes _ c.args.self _ c.close-next.new.self c.moved_to-in-Closes.result (stage.Closes c.in-Closes.closing) c.close-next.result (sym c.in-Closes.is ∙ c.replace-stage.ensures.value) c.moved_to-in-Closes.ensures _ _ _ _ _ _ same_place (record { watched = refl; opened = refl; answers = refl; token = refl }) refl c.close-next.ensures.later.wire c.close-next.ensures.tickets c.close-next.ensures.holds c.close-next.ensures.turned
     c.close-next.ensures.told c.close-next.ensures.watched
 
 pub returns-in-Closes-clause-comes : goal.returns-in-Closes-clause-comes
@@ -68,7 +68,7 @@ returns-in-Closes-clause-comes g c = follow_comes c.args.self c.args.self c.clos
 
 pub returns-in-Ended-clause-goes : goal.returns-in-Ended-clause-goes
 returns-in-Ended-clause-goes g c =
-    follow_goes c.args.self c.args.self c.args.self _ stage.Ended stage.Ended (sym c.in-Ended.is ∙ c.replace-stage.ensures.value) (staged c.args.self _ _ c.replace-stage.ensures.after) _ _ _ _ _ _ same_place (record { watched = refl; opened = refl; answers = refl; token = refl }) refl refl
+    follow_goes _ c.args.self c.args.self c.args.self _ stage.Ended stage.Ended (sym c.in-Ended.is ∙ c.replace-stage.ensures.value) (staged c.args.self _ _ c.replace-stage.ensures.after) _ _ _ _ _ _ same_place (record { watched = refl; opened = refl; answers = refl; token = refl }) refl refl
     (tickets_same (g.L.Link.awaited c.args.link.now) (stage_ticket stage.Ended) (λ n is. absurd cc)) tt (record { watching = took_ended _ _ stage.Ended c.args.self refl; vainly = vain_ended _ _ stage.Ended c.args.self refl }) (tells_same _ _ _ stage.Ended (kept c.args.self)) refl
 
 pub returns-in-Ended-clause-comes : goal.returns-in-Ended-clause-comes

@@ -35,7 +35,7 @@ read-next-requires-clause-few g c = subst (λ (s : GetStage). FewCalls s (length
 pub returns-in-Unsent-clause-goes : goal.returns-in-Unsent-clause-goes
 returns-in-Unsent-clause-goes g c =
     let n = c.begin-next.ensures in
-    get_gone _ _ _ _ _ _ c.args.self c.begin-next.new.self c.moved_to.result gets.Unsent c.begin-next.result (sym c.in-Unsent.is ∙ c.replace-stage.ensures.value) c.moved_to.ensures n.later.wire n.tickets n.holds n.few n.what n.turned
+    get_gone _ _ _ _ _ _ _ c.args.self c.begin-next.new.self c.moved_to.result gets.Unsent c.begin-next.result (sym c.in-Unsent.is ∙ c.replace-stage.ensures.value) c.moved_to.ensures n.later.wire n.tickets n.holds n.few n.what n.turned
 
 pub returns-in-Unsent-clause-comes : goal.returns-in-Unsent-clause-comes
 returns-in-Unsent-clause-comes g c = get_comes _ _ c.args.self c.begin-next.new.self c.moved_to.result gets.Unsent c.begin-next.result (sym c.in-Unsent.is ∙ c.replace-stage.ensures.value) c.moved_to.ensures c.begin-next.ensures.what c.begin-next.ensures.comes
@@ -43,7 +43,7 @@ returns-in-Unsent-clause-comes g c = get_comes _ _ c.args.self c.begin-next.new.
 pub returns-in-Opens-clause-goes : goal.returns-in-Opens-clause-goes
 returns-in-Opens-clause-goes g c =
     let n = c.open-next.ensures in
-    get_gone _ _ _ _ _ _ c.args.self c.open-next.new.self c.moved_to-in-Opens.result (gets.Opens c.in-Opens.opening) c.open-next.result (sym c.in-Opens.is ∙ c.replace-stage.ensures.value) c.moved_to-in-Opens.ensures n.later.wire n.tickets n.holds n.few n.what n.turned
+    get_gone _ _ _ _ _ _ _ c.args.self c.open-next.new.self c.moved_to-in-Opens.result (gets.Opens c.in-Opens.opening) c.open-next.result (sym c.in-Opens.is ∙ c.replace-stage.ensures.value) c.moved_to-in-Opens.ensures n.later.wire n.tickets n.holds n.few n.what n.turned
 
 pub returns-in-Opens-clause-comes : goal.returns-in-Opens-clause-comes
 returns-in-Opens-clause-comes g c = get_comes _ _ c.args.self c.open-next.new.self c.moved_to-in-Opens.result (gets.Opens c.in-Opens.opening) c.open-next.result (sym c.in-Opens.is ∙ c.replace-stage.ensures.value) c.moved_to-in-Opens.ensures c.open-next.ensures.what c.open-next.ensures.comes
@@ -51,13 +51,13 @@ returns-in-Opens-clause-comes g c = get_comes _ _ c.args.self c.open-next.new.se
 pub returns-in-Reads-clause-goes : goal.returns-in-Reads-clause-goes
 returns-in-Reads-clause-goes g c =
     let n = c.read-next.ensures in
-    get_gone _ _ _ _ _ _ c.args.self c.read-next.new.self c.moved_to-in-Reads.result (gets.Reads c.in-Reads.download c.in-Reads.room) c.read-next.result (sym c.in-Reads.is ∙ c.replace-stage.ensures.value) c.moved_to-in-Reads.ensures n.later.wire n.tickets n.holds n.few n.what n.turned
+    get_gone _ _ _ _ _ _ _ c.args.self c.read-next.new.self c.moved_to-in-Reads.result (gets.Reads c.in-Reads.download c.in-Reads.room) c.read-next.result (sym c.in-Reads.is ∙ c.replace-stage.ensures.value) c.moved_to-in-Reads.ensures n.later.wire n.tickets n.holds n.few n.what n.turned
 
 pub returns-in-Reads-clause-comes : goal.returns-in-Reads-clause-comes
 returns-in-Reads-clause-comes g c = get_comes _ _ c.args.self c.read-next.new.self c.moved_to-in-Reads.result (gets.Reads c.in-Reads.download c.in-Reads.room) c.read-next.result (sym c.in-Reads.is ∙ c.replace-stage.ensures.value) c.moved_to-in-Reads.ensures c.read-next.ensures.what c.read-next.ensures.comes
 
 pub returns-in-Ended-clause-goes : goal.returns-in-Ended-clause-goes
-returns-in-Ended-clause-goes g c = get_ended (g.L.Link.awaited c.args.link.now) (g.L.Link.log c.args.link.now) _ c.args.self c.moved_to-in-Ended.result c.in-Ended.ended (sym c.in-Ended.is ∙ c.replace-stage.ensures.value) c.moved_to-in-Ended.ensures c.requires.can.holds
+returns-in-Ended-clause-goes g c = get_ended (g.L.Link.awaited c.args.link.now) (g.L.Link.log c.args.link.now) _ _ c.args.self c.moved_to-in-Ended.result c.in-Ended.ended (sym c.in-Ended.is ∙ c.replace-stage.ensures.value) c.moved_to-in-Ended.ensures c.requires.can.holds
 
 pub returns-in-Ended-clause-comes : goal.returns-in-Ended-clause-comes
 returns-in-Ended-clause-comes g c = get_comes _ _ c.args.self c.args.self c.moved_to-in-Ended.result (gets.Ended c.in-Ended.ended) (gets.Ended c.in-Ended.ended) (sym c.in-Ended.is ∙ c.replace-stage.ensures.value) c.moved_to-in-Ended.ensures refl (get_over _ (length c.args.self.bytes.items) c.args.self.done c.args.self.what.read c.in-Ended.ended)

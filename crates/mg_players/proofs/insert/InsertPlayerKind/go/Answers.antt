@@ -3,7 +3,7 @@ use Rattle.mg_link.specs.Namespace.{space}
 use Rattle.mg_players.proofs.InsertTelling.{turns_over}
 use Rattle.mg_players.proofs.JobTelling.{insert_turn}
 use Rattle.mg_players.proofs.Knowing.{turned_insert}
-use Rattle.mg_players.specs.Plays.{AnySent, no_move}
+use Rattle.mg_players.specs.Plays.{SentAt, no_move}
 use Rattle.mg_players.proofs.insert.InsertPlayerKind.go.Goals as goal
 
 pub returns-clause-goes : goal.returns-clause-goes
@@ -14,7 +14,7 @@ returns-clause-goes g c =
       holds = tt;
       next = no_move;
       turned = turned_insert (g.L.Link.awaited c.args.link.now) (g.L.Link.awaited c.go.new.link) (g.L.Link.log c.args.link.now) (g.L.Link.log c.go.new.link) job (record job { stage = c.go.result }) c.go.ensures.plain;
-      told = insert_turn AnySent (g.L.Link.awaited c.args.link.now) (g.L.Link.awaited c.go.new.link) (g.L.Link.log c.args.link.now) (g.L.Link.log c.go.new.link) (g.L.Link.wire c.go.new.link) job (record job { stage = c.go.result }) refl
+      told = insert_turn (SentAt c.args._moment.millis) (g.L.Link.awaited c.args.link.now) (g.L.Link.awaited c.go.new.link) (g.L.Link.log c.args.link.now) (g.L.Link.log c.go.new.link) (g.L.Link.wire c.go.new.link) job (record job { stage = c.go.result }) refl
           (λ sent. turns_over _ _ _ _ _ _ (space job.ns.now) sent job.stage c.go.result c.go.ensures.later.wire (c.go.ensures.told (space job.ns.now) sent))
           (λ sent. c.go.ensures.sends (space job.ns.now) sent);
       task = refl;

@@ -8,7 +8,7 @@ returns-in-Insert-clause-goes g c =
       holds = h.holds;
       next = h.next;
       turned = λ calls told o at plays. let t = h.turned calls told o at plays in (t.0, t.1, record { place = t.2.place; placed = t.2.placed; owner = t.2.owner; plays = t.2.plays; passes = t.2.passes });
-      told = λ calls calls' told told' ids n may q at at' placed o plays tells. let r = h.told calls calls' told told' ids n may q at at' placed o plays tells in record { longer = r.longer; places = r.places; tells = r.tells; extends = r.extends; adds = r.adds };
+      told = λ calls calls' told told' supply n may q at at' placed o plays tells. let r = h.told calls calls' told told' supply n may q at at' placed o plays tells in record { longer = r.longer; places = r.places; tells = r.tells; extends = r.extends; adds = r.adds };
       task = h.task;
       has = h.has;
     })
@@ -24,7 +24,7 @@ returns-in-Follow-clause-goes g c =
       holds = h.holds;
       next = h.next;
       turned = λ calls told o at plays. let t = h.turned calls told o at plays in (t.0, t.1, record { place = t.2.place; placed = t.2.placed; owner = t.2.owner; plays = t.2.plays; passes = t.2.passes });
-      told = λ calls calls' told told' ids n may q at at' placed o plays tells. let r = h.told calls calls' told told' ids n may q at at' placed o plays tells in record { longer = r.longer; places = r.places; tells = r.tells; extends = r.extends; adds = r.adds };
+      told = λ calls calls' told told' supply n may q at at' placed o plays tells. let r = h.told calls calls' told told' supply n may q at at' placed o plays tells in record { longer = r.longer; places = r.places; tells = r.tells; extends = r.extends; adds = r.adds };
       task = h.task;
       has = h.has;
     })
@@ -40,7 +40,7 @@ returns-in-Put-clause-goes g c =
       holds = h.holds;
       next = h.next;
       turned = λ calls told o at plays. let t = h.turned calls told o at plays in (t.0, t.1, record { place = t.2.place; placed = t.2.placed; owner = t.2.owner; plays = t.2.plays; passes = t.2.passes });
-      told = λ calls calls' told told' ids n may q at at' placed o plays tells. let r = h.told calls calls' told told' ids n may q at at' placed o plays tells in record { longer = r.longer; places = r.places; tells = r.tells; extends = r.extends; adds = r.adds };
+      told = λ calls calls' told told' supply n may q at at' placed o plays tells. let r = h.told calls calls' told told' supply n may q at at' placed o plays tells in record { longer = r.longer; places = r.places; tells = r.tells; extends = r.extends; adds = r.adds };
       task = h.task;
       has = h.has;
     })
@@ -56,7 +56,7 @@ returns-in-Get-clause-goes g c =
       holds = h.holds;
       next = h.next;
       turned = λ calls told o at plays. let t = h.turned calls told o at plays in (t.0, t.1, record { place = t.2.place; placed = t.2.placed; owner = t.2.owner; plays = t.2.plays; passes = t.2.passes });
-      told = λ calls calls' told told' ids n may q at at' placed o plays tells. let r = h.told calls calls' told told' ids n may q at at' placed o plays tells in record { longer = r.longer; places = r.places; tells = r.tells; extends = r.extends; adds = r.adds };
+      told = λ calls calls' told told' supply n may q at at' placed o plays tells. let r = h.told calls calls' told told' supply n may q at at' placed o plays tells in record { longer = r.longer; places = r.places; tells = r.tells; extends = r.extends; adds = r.adds };
       task = h.task;
       has = h.has;
     })

@@ -13,22 +13,22 @@ pub returns-in-Pending-clause-turned : goal.returns-in-Pending-clause-turned
 returns-in-Pending-clause-turned g c =
     let going : Going = record c.args.going { upload = c.poll_close.new.self; ids = c.poll_close.new.ids } in
     let e = c.in-Pending.ensures in
-    turns_as _ _ _ _ _ _ (record c.args.self { stage = puts.Goes going }) _ c.moved_to.ensures
-    (close_waits_turns c.args.self c.args.going going _ _ _ _ _ c.requires.all c.requires.holds refl e.sound (record { ids = _; twelve = λ k. kept_twelve c.args.going.ids.ids.items (c.args.going.ids.next + k); drawn = e.closes.0; moment = _; does = e.closes.2; leaves = e.leaves; caused = e.caused; stored = e.stored; passes = e.passes; tickets = e.keeps.tickets }))
+    turns_as _ _ _ _ _ _ _ (record c.args.self { stage = puts.Goes going }) _ c.moved_to.ensures
+    (close_waits_turns _ c.args.self c.args.going going _ _ _ _ _ c.requires.all c.requires.holds refl e.sound (record { twelve = λ k. kept_twelve c.args.going.ids.ids.items (c.args.going.ids.next + k); drawn = e.closes.0; behind = e.closes.1; does = e.closes.2; leaves = e.leaves; caused = e.caused; stored = e.stored; passes = e.passes; tickets = e.keeps.tickets }))
 
 pub returns-in-Done-clause-turned : goal.returns-in-Done-clause-turned
 returns-in-Done-clause-turned g c =
     let going : Going = record c.args.going { upload = c.poll_close.new.self; ids = c.poll_close.new.ids } in
     let e = c.in-Done.ensures in
-    turns_as _ _ _ _ _ _ _ _ c.moved_to-in-Done.ensures
-    (close_done_turns c.args.self c.args.going going _ _ _ _ _ c.requires.all c.requires.holds refl (record { ids = _; twelve = λ k. kept_twelve c.args.going.ids.ids.items (c.args.going.ids.next + k); drawn = e.closes.0; moment = _; does = e.closes.2; leaves = e.leaves; caused = e.caused; stored = e.stored; passes = e.passes; tickets = e.keeps.tickets }))
+    turns_as _ _ _ _ _ _ _ _ _ c.moved_to-in-Done.ensures
+    (close_done_turns _ c.args.self c.args.going going _ _ _ _ _ c.requires.all c.requires.holds refl (record { twelve = λ k. kept_twelve c.args.going.ids.ids.items (c.args.going.ids.next + k); drawn = e.closes.0; behind = e.closes.1; does = e.closes.2; leaves = e.leaves; caused = e.caused; stored = e.stored; passes = e.passes; tickets = e.keeps.tickets }))
 
 pub returns-clause-turned : goal.returns-clause-turned
 returns-clause-turned g c =
     let going : Going = record c.args.going { upload = c.poll_close.new.self; ids = c.poll_close.new.ids } in
     let e = c.in-Failed.ensures in
-    turns_as _ _ _ _ _ _ _ _ c.moved_to-in-Failed.ensures
-    (close_fails_turns c.args.self c.args.going going _ _ _ _ _ c.requires.all c.requires.holds refl c.in-Failed.error (record { ids = _; twelve = λ k. kept_twelve c.args.going.ids.ids.items (c.args.going.ids.next + k); drawn = e.closes.0; moment = _; does = e.closes.2; leaves = e.leaves; caused = e.caused; stored = e.stored; passes = e.passes; tickets = e.keeps.tickets }))
+    turns_as _ _ _ _ _ _ _ _ _ c.moved_to-in-Failed.ensures
+    (close_fails_turns _ c.args.self c.args.going going _ _ _ _ _ c.requires.all c.requires.holds refl c.in-Failed.error (record { twelve = λ k. kept_twelve c.args.going.ids.ids.items (c.args.going.ids.next + k); drawn = e.closes.0; behind = e.closes.1; does = e.closes.2; leaves = e.leaves; caused = e.caused; stored = e.stored; passes = e.passes; tickets = e.keeps.tickets }))
 
 -- ---- how far it comes
 

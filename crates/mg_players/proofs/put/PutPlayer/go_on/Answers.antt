@@ -12,3 +12,6 @@ write-requires-clause-there g c =
 
 pub close-requires-clause-all : goal.close-requires-clause-all
 close-requires-clause-all g c = let counts = length-map c.args.self.what.pieces.now piece in omega (arith, counts)
+
+pub returns-then-at-pieces-clause-turned : goal.returns-then-at-pieces-clause-turned
+returns-then-at-pieces-clause-turned g c = c.write.ensures.turned c.args.moment.millis

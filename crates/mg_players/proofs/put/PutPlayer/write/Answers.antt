@@ -11,25 +11,25 @@ use Rattle.mg_players.proofs.put.PutPlayer.write.Goals as goal
 -- ---- what it knows and tells
 
 pub returns-in-Pending-clause-turned : goal.returns-in-Pending-clause-turned
-returns-in-Pending-clause-turned g c =
+returns-in-Pending-clause-turned g c = λ moment.
     let going : Going = record c.args.going { upload = c.poll_write.new.self; ids = c.poll_write.new.ids } in
     let e = c.in-Pending.ensures in
-    turns_as _ _ _ _ _ _ (record c.args.self { stage = puts.Goes going }) _ c.moved_to.ensures
-    (write_waits_turns c.args.self c.args.going going c.args.piece.now _ _ _ _ _ c.requires.there c.requires.holds refl e.sound (record { ids = _; twelve = λ k. kept_twelve c.args.going.ids.ids.items (c.args.going.ids.next + k); drawn = e.writes.0; does = e.writes.2; leaves = e.leaves; caused = e.caused; stored = e.stored; passes = e.passes; tickets = e.keeps.tickets }))
+    turns_as _ _ _ _ _ _ _ (record c.args.self { stage = puts.Goes going }) _ c.moved_to.ensures
+    (write_waits_turns moment c.args.self c.args.going going c.args.piece.now _ _ _ _ _ c.requires.there c.requires.holds refl e.sound (record { twelve = λ k. kept_twelve c.args.going.ids.ids.items (c.args.going.ids.next + k); drawn = e.writes.0; behind = e.writes.1; does = e.writes.2; leaves = e.leaves; caused = e.caused; stored = e.stored; passes = e.passes; tickets = e.keeps.tickets }))
 
 pub returns-in-Wrote-clause-turned : goal.returns-in-Wrote-clause-turned
-returns-in-Wrote-clause-turned g c =
+returns-in-Wrote-clause-turned g c = λ moment.
     let going : Going = record c.args.going { upload = c.poll_write.new.self; ids = c.poll_write.new.ids } in
     let e = c.in-Wrote.ensures in
-    turns_as _ _ _ _ _ _ (record c.args.self { stage = puts.Goes going; done = c.args.self.done + 1 }) _ (c.moved_to-in-Wrote.ensures ∙ ap {B = PutPlayer} (λ (n : ℕ). record c.args.self { stage = puts.Goes going; done = n }) c.requires.count)
-    (write_done_turns c.args.self c.args.going going c.args.piece.now _ _ _ _ _ c.requires.there c.requires.holds refl _ e.sound (record { ids = _; twelve = λ k. kept_twelve c.args.going.ids.ids.items (c.args.going.ids.next + k); drawn = e.writes.0; does = e.writes.2; leaves = e.leaves; caused = e.caused; stored = e.stored; passes = e.passes; tickets = e.keeps.tickets }))
+    turns_as _ _ _ _ _ _ _ (record c.args.self { stage = puts.Goes going; done = c.args.self.done + 1 }) _ (c.moved_to-in-Wrote.ensures ∙ ap {B = PutPlayer} (λ (n : ℕ). record c.args.self { stage = puts.Goes going; done = n }) c.requires.count)
+    (write_done_turns moment c.args.self c.args.going going c.args.piece.now _ _ _ _ _ c.requires.there c.requires.holds refl _ e.sound (record { twelve = λ k. kept_twelve c.args.going.ids.ids.items (c.args.going.ids.next + k); drawn = e.writes.0; behind = e.writes.1; does = e.writes.2; leaves = e.leaves; caused = e.caused; stored = e.stored; passes = e.passes; tickets = e.keeps.tickets }))
 
 pub returns-clause-turned : goal.returns-clause-turned
-returns-clause-turned g c =
+returns-clause-turned g c = λ moment.
     let going : Going = record c.args.going { upload = c.poll_write.new.self; ids = c.poll_write.new.ids } in
     let e = c.in-Failed.ensures in
-    turns_as _ _ _ _ _ _ _ _ c.moved_to-in-Failed.ensures
-    (write_fails_turns c.args.self c.args.going going c.args.piece.now _ _ _ _ _ c.requires.there c.requires.holds refl c.in-Failed.error (record { ids = _; twelve = λ k. kept_twelve c.args.going.ids.ids.items (c.args.going.ids.next + k); drawn = e.writes.0; does = e.writes.2; leaves = e.leaves; caused = e.caused; stored = e.stored; passes = e.passes; tickets = e.keeps.tickets }))
+    turns_as _ _ _ _ _ _ _ _ _ c.moved_to-in-Failed.ensures
+    (write_fails_turns moment c.args.self c.args.going going c.args.piece.now _ _ _ _ _ c.requires.there c.requires.holds refl c.in-Failed.error (record { twelve = λ k. kept_twelve c.args.going.ids.ids.items (c.args.going.ids.next + k); drawn = e.writes.0; behind = e.writes.1; does = e.writes.2; leaves = e.leaves; caused = e.caused; stored = e.stored; passes = e.passes; tickets = e.keeps.tickets }))
 
 -- ---- how far it comes
 

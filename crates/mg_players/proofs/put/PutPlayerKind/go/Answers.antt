@@ -16,7 +16,7 @@ pub go_on-requires-clause-holds : goal.go_on-requires-clause-holds
 go_on-requires-clause-holds g c = subst (λ (s : PutStage). PutStageHolds s c.args.self.done (length (pieces c.args.self.what.pieces.now))) (sym c.replace.ensures.value ∙ c.in-Goes.is) c.requires.can.holds
 
 pub returns-in-Goes-clause-goes : goal.returns-in-Goes-clause-goes
-returns-in-Goes-clause-goes g c = put_goes _ _ _ _ _ _ c.args.self c.go_on.result (puts.Goes c.in-Goes.going) (sym c.in-Goes.is ∙ c.replace.ensures.value) c.go_on.ensures.later.wire c.go_on.ensures.turned
+returns-in-Goes-clause-goes g c = put_goes _ _ _ _ _ _ _ c.args.self c.go_on.result (puts.Goes c.in-Goes.going) (sym c.in-Goes.is ∙ c.replace.ensures.value) c.go_on.ensures.later.wire c.go_on.ensures.turned
 
 pub returns-in-Goes-clause-comes : goal.returns-in-Goes-clause-comes
 returns-in-Goes-clause-comes g c = put_comes _ _ c.args.self c.go_on.result (puts.Goes c.in-Goes.going) (sym c.in-Goes.is ∙ c.replace.ensures.value) c.go_on.ensures.comes
@@ -24,7 +24,7 @@ returns-in-Goes-clause-comes g c = put_comes _ _ c.args.self c.go_on.result (put
 pub returns-in-Begins-clause-goes : goal.returns-in-Begins-clause-goes
 returns-in-Begins-clause-goes g c =
     let none = subst (λ (s : PutStage). PutStageHolds s c.args.self.done (length (pieces c.args.self.what.pieces.now))) (sym c.replace.ensures.value ∙ c.in-Begins.is) c.requires.can.holds in
-    put_goes _ _ _ _ _ _ c.args.self c.moved_to.result (puts.Begins c.in-Begins.begun) (sym c.in-Begins.is ∙ c.replace.ensures.value) refl (turns_as _ _ _ _ _ _ _ _ c.moved_to.ensures (opening_turns _ _ _ c.args.self c.in-Begins.begun c.opening-next.result none c.opening-next.ensures))
+    put_goes _ _ _ _ _ _ _ c.args.self c.moved_to.result (puts.Begins c.in-Begins.begun) (sym c.in-Begins.is ∙ c.replace.ensures.value) refl (turns_as _ _ _ _ _ _ _ _ _ c.moved_to.ensures (opening_turns _ _ _ _ c.args.self c.in-Begins.begun c.opening-next.result none c.opening-next.ensures))
 
 pub returns-in-Begins-clause-comes : goal.returns-in-Begins-clause-comes
 returns-in-Begins-clause-comes g c =
@@ -32,14 +32,14 @@ returns-in-Begins-clause-comes g c =
 
 pub returns-in-Undrawn-clause-goes : goal.returns-in-Undrawn-clause-goes
 returns-in-Undrawn-clause-goes g c =
-    put_same (g.L.Link.awaited c.args.link.now) (g.L.Link.log c.args.link.now) _ c.args.self _ (ap (λ (s : PutStage). record c.args.self { stage = s }) (c.replace.ensures.after ∙ sym c.in-Undrawn.is ∙ c.replace.ensures.value)) c.requires.can.out c.requires.can.holds
+    put_same (g.L.Link.awaited c.args.link.now) (g.L.Link.log c.args.link.now) _ _ c.args.self _ (ap (λ (s : PutStage). record c.args.self { stage = s }) (c.replace.ensures.after ∙ sym c.in-Undrawn.is ∙ c.replace.ensures.value)) c.requires.can.out c.requires.can.holds
 
 pub returns-in-Undrawn-clause-comes : goal.returns-in-Undrawn-clause-comes
 returns-in-Undrawn-clause-comes g c = undrawn_comes _ c.args.self (record c.args.self { stage = c.replace.new.dest }) (sym c.in-Undrawn.is ∙ c.replace.ensures.value)
 
 pub returns-in-Ended-clause-goes : goal.returns-in-Ended-clause-goes
 returns-in-Ended-clause-goes g c =
-    put_same (g.L.Link.awaited c.args.link.now) (g.L.Link.log c.args.link.now) _ c.args.self c.moved_to-in-Ended.result (c.moved_to-in-Ended.ensures ∙ at_stage c.args.self (puts.Ended c.in-Ended.ended) (sym c.in-Ended.is ∙ c.replace.ensures.value)) c.requires.can.out c.requires.can.holds
+    put_same (g.L.Link.awaited c.args.link.now) (g.L.Link.log c.args.link.now) _ _ c.args.self c.moved_to-in-Ended.result (c.moved_to-in-Ended.ensures ∙ at_stage c.args.self (puts.Ended c.in-Ended.ended) (sym c.in-Ended.is ∙ c.replace.ensures.value)) c.requires.can.out c.requires.can.holds
 
 pub returns-in-Ended-clause-comes : goal.returns-in-Ended-clause-comes
 returns-in-Ended-clause-comes g c =

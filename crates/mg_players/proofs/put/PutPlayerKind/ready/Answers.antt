@@ -1,5 +1,6 @@
 use Rattle.std.proofs.Common.{◌∙◌, ℕ, length, sym, ap, subst}
 use Rattle.mg_script.specs.Plan.{pieces}
+use Rattle.mg_players.specs.Drawing.{supply_from}
 use Rattle.mg_players.specs.Headline.{put_task}
 use Rattle.mg_players.specs.Progress.{PutReady}
 use Rattle.mg_players.specs.Puts.{PutStageHolds, writes}
@@ -28,9 +29,9 @@ returns-clause-got g c =
           (subst (λ (d : ℕ). PutReady calls new.stage d (length old.what.pieces.now) k last) (sym same.1) (drew_at ids t calls old.stage new.stage old.done (length old.what.pieces.now) k last drew at));
       tells = record {
         number_same = ap (λ (d : ℕ). put_number d new.stage) same.1 ∙ drew_number ids t old.stage new.stage old.done drew;
-        tells = λ awaited calls wire q source n at may told.
-            subst (λ (w : Written). PutTells awaited calls wire q (writes w) new.done new.stage) (sym same.0)
-            (subst (λ (d : ℕ). PutTells awaited calls wire q t d new.stage) (sym same.1) (drew_tells ids t awaited calls wire q old.done old.stage new.stage drew told));
+        tells = λ awaited calls wire q supply n at may told.
+            subst (λ (w : Written). PutTells awaited calls wire q (supply_from supply n) (writes w) new.done new.stage) (sym same.0)
+            (subst (λ (d : ℕ). PutTells awaited calls wire q (supply_from supply n) t d new.stage) (sym same.1) (drew_tells ids t awaited calls wire q (supply_from supply n) old.done old.stage new.stage may drew told));
       };
       has = same.2;
     }

@@ -1,11 +1,12 @@
--- What a get never fails for: over a file that is whole, and where its own steps were answered at once.
-use Rattle.std.specs.Prelude.{◌≡◌, ◌≢◌, ◌<◌, ◌≤◌, Contains, ℕ, ℤ, pos, List, Some, None, Ok, slice_get, take}
+-- Why a read of a get fails: by chunks that are not what their record says, and by what does not come where its own steps were answered at once.
+use Rattle.std.specs.Prelude.{◌≡◌, ◌≢◌, ◌≤◌, ◌++◌, Contains, ℕ, suc, ℤ, pos, List, ◌∷◌, length, Some, None, Ok, Err, slice_get, take}
 use Rattle.mg_bson.specs.Raw.{fields}
-use Rattle.mg_bson.specs.Tree.{Fields, Tree}
+use Rattle.mg_bson.specs.Tree.{Fields}
 use Rattle.mg_link.specs.Calls.{HeardBy, IsOwn, Past}
 use Rattle.mg_link.specs.Commands.{Asked, asked, asks_query}
 use Rattle.mg_link.specs.Exec.{IsSuccess}
-use Rattle.mg_link.specs.Files.{Bucket, IsWhole, LeavesFile, chunks_space}
+use Rattle.mg_link.specs.Errors.{plain}
+use Rattle.mg_link.specs.Files.{Bucket, chunks_space, file_of}
 use Rattle.mg_link.specs.History.{IsLegal, Step, state_of, told_at}
 use Rattle.mg_link.specs.Log.{Call, reply}
 use Rattle.mg_link.specs.Prompt.{IsPrompt}
@@ -18,23 +19,32 @@ use Rattle.mg_ops.specs.Naming.{IsNamed}
 use Rattle.mg_cursor.specs.Causes.{MoreFails}
 use Rattle.mg_cursor.specs.Client.{ClientCursor, holds}
 use Rattle.mg_cursor.specs.Polling.{CannotAsk}
-use Rattle.mg_records.specs.FileRecords.{FileRecord, file_record_of}
-use Rattle.mg_gridfs.specs.DownloadLaws.{IsBetween}
-use Rattle.mg_gridfs.specs.Downloads.{ClientDownload, Doing, ended, idle, reads, spoiled}
+use Rattle.mg_records.specs.FileRecords.{FileRecord, chunk_count_of}
+use Rattle.mg_gridfs.specs.Downloaded.{AreReceived, chunks_query}
+use Rattle.mg_gridfs.specs.Downloads.{ClientDownload, Doing, ended, idle, judged, missing_chunk, reads, spoiled}
 use Rattle.mg_gridfs.specs.ReadCauses.{cursor_in}
 use Rattle.mg_players.specs.Gets.{GetTask, chunks_find, no_manner}
 
--- ---- a file that is whole
+-- ---- chunks that are not what their record says
 
--- A reply to the call at this place listed its chunks, and this does not come in a legal history in which the log stands, where a file with this record was whole
--- and nobody touched it until that call.
-pub record SparesWhole (calls : List Call) (at : Bucket) (id : Tree) (f : FileRecord) (listed : ℕ) : Type 0 where
+-- Documents that stand as the chunks of a file are not what its record says, by which they are so many, as the error tells: one is the first that differs; or all are
+-- in order, and not as many.
+pub data Differ (f : FileRecord) (count : ℕ) (stood : List Fields) (e : Error) : Type 0 where
+  one_differs : (before : List Fields) (chunks : List (List ℕ)) (d : Fields) (left : List Fields) → stood ≡ before ++ d ∷ left → AreReceived f 0 chunks before → judged f (length chunks) d ≡ Err e → Differ f count stood e
+  miscounted : (chunks : List (List ℕ)) → AreReceived f 0 chunks stood → length chunks ≢ count → e ≡ missing_chunk (length chunks) → Differ f count stood e
+
+-- A reply to the call at this place listed the chunks of the file with this record. In each legal history in which the log stands, those that stood as the call took
+-- effect are not what the record says, as the error tells.
+pub record ListsOther (calls : List Call) (at : Bucket) (f : FileRecord) (listed : ℕ) (e : Error) : Type 0 where
+  pub named : IsNamed (chunks_space at)
   pub call : Call
   pub there : slice_get calls listed ≡ Some call
+  pub asks : asked call.command ≡ asks_query (chunks_query (chunks_space at) f.id)
   pub bytes : List ℕ
   pub heard : call.seen ≡ reply bytes
-  pub never : (history : List Step) → IsLegal history → Stands calls history → (whole : List ℕ) (size from upto : ℕ) (w : IsWhole (state_of (take from history)) at id whole size) → file_record_of w.record_of ≡ Ok f
-      → ((position : ℕ) (step : Step) → from ≤ position → position < upto → slice_get history position ≡ Some step → LeavesFile (state_of (take position history)) step at id) → IsBetween calls from upto listed → ⊥
+  pub count : ℕ
+  pub counted : chunk_count_of f.length f.chunk_size ≡ Ok count
+  pub differ : (history : List Step) → IsLegal history → Stands calls history → (position : ℕ) × (call.position ≡ Some position) × Differ f count (file_of (state_of (take (suc position) history)) at f.id).chunks e
 
 -- ---- steps that were answered at once
 
@@ -97,13 +107,17 @@ empties spoiled = 0
 abbrev pub ListsIts : Past → GetTask → ClientDownload → Type 0
 ListsIts past g d = (c : ClientCursor) → cursor_in d.doing ≡ Some c → IsListed past g d.file (empties d.doing) c
 
+-- a reply in hand, unread from an earlier call, is that to the list of the chunks
+abbrev pub HeardHeld : Past → GetTask → FileRecord → ClientCursor → Type 0
+HeardHeld past g f c = (bytes : List ℕ) → c.doing ≡ holds bytes → HeardBy past (chunks_find g f.id) (reply bytes)
+
 -- ---- why a read fails
 
 -- Why a read fails: memory ran out; a getMore is not built, or brings no batch; a batch is one empty one too many, which does not come where the steps were
--- answered at once; or what was received is not what the record says, which does not come over a file that is whole.
-pub data ReadStops (past : Past) (spared : Type 0) (e : Error) : Type 0 where
-  no_memory : e.kind ≡ kind.OutOfMemory → ReadStops past spared e
-  not_built : (at : ClientCursor) → IsTold past at → CannotAsk at None e → ReadStops past spared e
-  no_batch : (at : ClientCursor) → IsTold past at → MoreFails past at e → ReadStops past spared e
-  too_many : WherePrompt past ⊥ → ReadStops past spared e
-  differs : spared → ReadStops past spared e
+-- answered at once; or chunks that stood are not what their record says.
+pub data ReadStops (past : Past) (differ : Type 0) (e : Error) : Type 0 where
+  no_memory : e.kind ≡ kind.OutOfMemory → ReadStops past differ e
+  not_built : (at : ClientCursor) → IsTold past at → CannotAsk at None e → ReadStops past differ e
+  no_batch : (at : ClientCursor) → IsTold past at → MoreFails past at e → ReadStops past differ e
+  too_many : WherePrompt past ⊥ → e ≡ plain kind.EmptyBatches → ReadStops past differ e
+  differs : differ → ReadStops past differ e
