@@ -1,12 +1,12 @@
 -- The batches of a query fit a reply, where its documents are as small and as flat as stored ones; and chunks with numbers can be sorted.
-use Rattle.std.proofs.Common.{◌≡◌, ◌≤◌, ◌+◌, ℕ, zero, suc, ℤ, pos, Bool, true, false, List, [], ◌∷◌, length, take, drop, Option, Some, None, refl, sym, ap, ap₂, ◌∙◌, subst, inl, inr, arith}
+use Rattle.std.proofs.Common.{◌≡◌, ◌≤◌, ◌+◌, ℕ, zero, suc, ℤ, pos, Bool, true, false, List, [], ◌∷◌, length, take, drop, Option, Some, None, refl, sym, ap, ap₂, subst, inl, inr, arith}
 use Rattle.std.specs.Prelude.{if◌then◌else◌, ◌&&◌, codes, is_some, option_and_then}
 use Rattle.std.specs.List.{filter}
 use Rattle.mg_bson.specs.Tree.{Tree, document, array, int32, int64, string, Fields, field}
 use Rattle.mg_bson.specs.Bytes.{bytes, fields_bytes, items_bytes, items_depth}
 use Rattle.mg_bson.specs.Find.{as_int32, get}
 use Rattle.mg_bson.specs.Literal.{◌⇒◌⨾◌, empty}
-use Rattle.mg_link.specs.Filter.{Condition, matches, meets}
+use Rattle.mg_link.specs.Filter.{matches, meets}
 use Rattle.mg_link.specs.Files.{AreChunks, by_number, chunks_space, file_of, has_value, Bucket}
 use Rattle.mg_link.specs.Namespace.{Space, full_name}
 use Rattle.mg_link.specs.Query.{Key, can_sort, comes_first, have_order, order_by, result, sorted, sorted_in}
@@ -16,6 +16,7 @@ use Rattle.mg_link.specs.Step.{documents_of}
 use Rattle.mg_link.proofs.Batched.{is_full}
 use Rattle.mg_link.proofs.Chunking.{AreBelow, below_sorted, chunks_below}
 use Rattle.mg_gridfs.specs.Downloaded.{chunks_query, record_query}
+use Rattle.mg_players.proofs.GetListing.{those_same}
 use Rattle.mg_jobs.proofs.Sizes.{IsSmall, events_long, field_long, framed_long, id_long, name_long, ok_long}
 use Rattle.mg_jobs.proofs.Stored.{AreShort, IsStored, short_first}
 
@@ -116,16 +117,6 @@ numbers_sort k [] below = refl
 numbers_sort k (d ∷ ds) below = let n = below.0 in all_ordered k d (pos n.0) (number_is (get (codes "n") d) (pos n.0) n.1) (d ∷ ds) below
 
 -- ---- the results of a get's queries
-
-and_true : (t : Bool) → (t && true) ≡ t
-and_true true = refl
-and_true false = refl
-
-those_same : (c : Condition) (ds : List Fields) → filter (matches (c ∷ [])) ds ≡ filter (meets c) ds
-those_same c [] = refl
-those_same c (d ∷ ds) =
-    ap (λ (t : Bool). if t then d ∷ filter (matches (c ∷ [])) ds else filter (matches (c ∷ [])) ds) (and_true (meets c d))
-    ∙ ap (λ (l : List Fields). if meets c d then d ∷ l else l) (those_same c ds)
 
 -- the records that have an id, the first one alone
 pub record_found : (s : State) (space : Space) (id : Tree) → result s (record_query space id) ≡ Some (take 1 (filter (matches (has_value (codes "_id") id ∷ [])) (documents_of s space)))
