@@ -1,6 +1,7 @@
 -- What becomes of files, by the steps of their jobs.
 use Rattle.std.proofs.Common.{◌≡◌, ◌⊎◌, ◌+◌, ◌-◌, ◌<◌, ◌≤◌, ◌++◌, ◌∷◌, [], ℕ, zero, suc, ℤ, List, Option, Some, None, option_map, length, take, refl, sym, ap, ◌∙◌, subst, inl, inr, arith, append-nil, append_assoc}
 use Rattle.std.specs.Prelude.{codes, option_and_then, slice_get, unwrap_or}
+use Rattle.std.specs.List.{concat}
 use Rattle.std.proofs.lemmas.List.{take_all}
 use Rattle.mg_bson.specs.Find.{get}
 use Rattle.mg_bson.specs.Raw.{fields}
@@ -36,20 +37,20 @@ use Rattle.mg_records.specs.FileRecords.{FileRecord, file_record_of}
 use Rattle.mg_players.specs.Causes.{AllSentIn, Course, SentIn, places_of, sent_at}
 use Rattle.mg_players.specs.Files.{FindsBroken, HasReadOther, IsFirstStepOf, IsLastStepOf, IsStepOf, LeftNoChunk, LeftWhole, NeverWhole, OthersLeave, OthersLeaveFrom, no_record, not_counted, other_chunks}
 use Rattle.mg_players.specs.Gets.{GetKnowsAt, GetTask, IsGetCommand, chunks_find, for_chunks, for_more, for_record, get_end, more_chunks, record_find, sought}
-use Rattle.mg_players.specs.Headline.{GaveFront, GetGave, GetPlays, PutLeft}
-use Rattle.mg_players.specs.Plays.{Places, all_places}
-use Rattle.mg_players.specs.Puts.{PutTask, Supply, joined, put_aim, put_end}
+use Rattle.mg_players.specs.Headline.{GaveFront, GetGave, GetPlays}
+use Rattle.mg_players.specs.Plays.{Places}
+use Rattle.mg_players.specs.Puts.{PutTask, joined, put_aim}
 use Rattle.mg_players.specs.Sends.{SendsOnly}
-use Rattle.mg_players.specs.Telling.{AllSent, GetTells, PutTells, TellsGetOpened}
+use Rattle.mg_players.specs.Telling.{AllSent, GetTells, TellsGetOpened}
 use Rattle.mg_players.specs.declared.get.GetPlayer.{GetPlayer}
 use Rattle.mg_players.specs.declared.get.GetStage.{GetStage}
 use Rattle.mg_players.specs.declared.get.GetStage.TheVariants as gets
-use Rattle.mg_players.specs.declared.put.PutStage.{PutStage}
-use Rattle.mg_players.specs.declared.put.PutStage.TheVariants as puts
 use Rattle.mg_script.specs.declared.outcome.Ended.TheVariants as ended
 use Rattle.mg_players.proofs.GetBlamed.{Blamed, FoundAt, OwnAt, blamed, found_at}
 use Rattle.mg_players.proofs.GetBroken.{Broke, broke, count_broke, record_broke}
 use Rattle.mg_players.proofs.GetDiffering.{whole_never}
+use Rattle.mg_jobs.proofs.FindFirst.{find_first}
+use Rattle.mg_jobs.proofs.PlacesRise.{Rise, of_rise, rise_first}
 use Rattle.mg_jobs.proofs.Positions.{sent_place}
 
 -- ---- whose steps these are
@@ -66,7 +67,7 @@ module _ (c : Course) (i : ℕ) (calls : List Call) (wire : ℤ) (places : List 
         placed = s.placed;
       }
 
-  others_leave : (history : List Step) (b : Bucket) (id : Tree) → OthersLeave c i calls history b id → filing.OthersLeave (sent_at places calls wire) history b id
+  pub others_leave : (history : List Step) (b : Bucket) (id : Tree) → OthersLeave c i calls history b id → filing.OthersLeave (sent_at places calls wire) history b id
   others_leave history b id leave position step found = elim (leave position step (omega arith) (get_within history position step found) found) [
     | inl own ↦ inl (own_step position own)
     | inr leaves ↦ inr leaves
@@ -111,7 +112,7 @@ put_left c i calls wire places t whole stored history legal stands leave last up
     (stored_is_whole (sent_at places calls wire) t.at (fresh_upload (put_aim t)) (joined t.pieces) stored history legal stands (others_leave c i calls wire places whole history t.at t.id leave))
 
 -- A put that knows of no chunk left none.
-put_cleared : (c : Course) (i : ℕ) (calls : List Call) (wire : ℤ) (places : List ℕ) (t : PutTask) → places ≡ places_of c i → KnowsFile (sent_at places calls wire) t.at t.id cleared → LeftNoChunk c i calls t.at t.id
+pub put_cleared : (c : Course) (i : ℕ) (calls : List Call) (wire : ℤ) (places : List ℕ) (t : PutTask) → places ≡ places_of c i → KnowsFile (sent_at places calls wire) t.at t.id cleared → LeftNoChunk c i calls t.at t.id
 put_cleared c i calls wire places t whole k history legal stands leave last upto is_last behind =
     let n : ℕ = upto + length history in
     let all : take n history ≡ history = take_all n history (omega arith) in
@@ -119,28 +120,15 @@ put_cleared c i calls wire places t whole k history legal stands leave last upto
     ap (λ (f : File). f.chunks) (sym same) ∙ subst (λ (h : List Step). (file_of (state_of h) t.at t.id).chunks ≡ []) (sym all) (k.each history legal stands (others_leave c i calls wire places whole history t.at t.id leave))
 
 -- one that sent nothing has no step
-put_sent_none : (c : Course) (i : ℕ) (calls : List Call) (t : PutTask) → places_of c i ≡ [] → LeftNoChunk c i calls t.at t.id
+pub put_sent_none : (c : Course) (i : ℕ) (calls : List Call) (t : PutTask) → places_of c i ≡ [] → LeftNoChunk c i calls t.at t.id
 put_sent_none c i calls t none history legal stands leave last upto is_last behind =
     let own = is_last.own in
     absurd (subst (λ (l : List ℕ). IsOf l own.place) none (sent_place c i own.done own.place own.sent))
 
--- What a put tells at the end of a run says what it left.
-pub put_filed : (awaited : Awaited) (c : Course) (i n : ℕ) (calls : List Call) (wire : ℤ) (supply : Supply) (t : PutTask) (q : Places) (done : ℕ) (s : PutStage) → PutTells awaited calls wire q supply t done s → AllSent c i q n → PutLeft c i calls t (put_end s)
-put_filed awaited c i n calls wire supply t q done puts.Undrawn tells sent = tt
-put_filed awaited c i n calls wire supply t q done (puts.Begins begun) tells sent = tt
-put_filed awaited c i n calls wire supply t q done (puts.Goes going) tells sent = tt
-put_filed awaited c i n calls wire supply t q done (puts.Ended ended.Unfinished) tells sent = tt
-put_filed awaited c i n calls wire supply t q done (puts.Ended (ended.Gave size)) tells sent = put_left c i calls wire (all_places q) t sent.whole tells.2.2
-put_filed awaited c i n calls wire supply t q done (puts.Ended (ended.Failed e)) tells sent =
-    λ leaves. elim tells.2 [
-      | inl cannot ↦ put_sent_none c i calls t (sym sent.whole ∙ cannot.1)
-      | inr fails ↦ put_cleared c i calls wire (all_places q) t sent.whole (fails.2 leaves)
-    ]
-
 -- ---- a get
 
 -- what a step is caused by, in the state that it is taken in
-may_in : (s : State) (history : List Step) (position : ℕ) (step : Step) → IsLegalFrom s history → slice_get history position ≡ Some step → May (state_after s (take position history)) (asked step.command) (told_at step) step.made
+pub may_in : (s : State) (history : List Step) (position : ℕ) (step : Step) → IsLegalFrom s history → slice_get history position ≡ Some step → May (state_after s (take position history)) (asked step.command) (told_at step) step.made
 unfolding IsLegalFrom state_after
 may_in s [] position step legal found = absurd cc
 may_in s (y ∷ ys) zero step legal found = subst (λ (x : Step). May s (asked x.command) (told_at x) x.made) (same_some y step found) legal.0
@@ -163,12 +151,17 @@ more_leaves : (command : List ℕ) (at : Bucket) (id : Tree) → IsMore (asked c
 more_leaves command at id (inl m) = leaves_by command at id (asks_more m.0 m.1) m.2 tt tt
 more_leaves command at id (inr other) = leaves_by command at id asks_other other tt tt
 
+-- so it leaves each file
+pub next_leaves : (command : List ℕ) (at : Bucket) (id : Tree) (cursor : ℤ) (space : Space) → fields command ≡ more_chunks cursor space → Leaves command at id
+unfolding asked
+next_leaves command at id cursor space is = more_leaves command at id (subst (λ (fs : Fields). IsMore (unwrap_or (asked_by fs) asks_other)) (sym is) (more_reads (more_chunks cursor space)))
+
 -- a command that a get may send leaves each file
 get_leaves : (g : GetTask) (command : List ℕ) (at : Bucket) (id : Tree) → IsGetCommand g (fields command) → Leaves command at id
 unfolding asked
 get_leaves g command at id (for_record some is) = read_leaves command at id (subst (λ (fs : Fields). IsReading (unwrap_or (asked_by fs) asks_other)) (sym is) (find_reads (record_find g)))
 get_leaves g command at id (for_chunks some file is) = read_leaves command at id (subst (λ (fs : Fields). IsReading (unwrap_or (asked_by fs) asks_other)) (sym is) (find_reads (chunks_find g file)))
-get_leaves g command at id (for_more some cursor space is) = more_leaves command at id (subst (λ (fs : Fields). IsMore (unwrap_or (asked_by fs) asks_other)) (sym is) (more_reads (more_chunks cursor space)))
+get_leaves g command at id (for_more some cursor space is) = next_leaves command at id cursor space is
 
 module _ (c : Course) (i : ℕ) (calls : List Call) (g : GetTask) (sends : SendsOnly (IsGetCommand g) c i calls) (history : List Step) (legal : IsLegal history) (stands : Stands calls history) where
   -- so does each step of it
@@ -244,6 +237,20 @@ module _ (c : Course) (i n : ℕ) (calls : List Call) (wire : ℤ) (g : GetTask)
   found_own : (history : List Step) (x : FoundAt its_past history g b.file) → IsStepOf c i calls x.position
   found_own history x = its_own c i 0 calls wire q.opened sent.opened x.position x.step
 
+  -- that before it listed the chunks
+  found_before : (history : List Step) → Stands calls history → (x : FoundAt its_past history g b.file) (position : ℕ) → b.other.call.position ≡ Some position → x.position < position
+  found_before history stands x position placed =
+      let s = stands.same x.step.place x.step.call x.position x.step.there x.step.placed in
+      let same : s.0 ≡ x.finds.step = same_some s.0 x.finds.step (sym s.1 ∙ x.finds.there) in
+      let own : IsOf q.opened x.step.place = elim x.step.own [
+        | inl of ↦ of
+        | inr late ↦ let within = get_within calls x.step.place x.step.call x.step.there in absurd (omega (arith, late, within))
+      ] in
+      let rise = rise_first q.opened (concat q.owns ++ q.now) c.begun (subst (Rise c.begun) (sym sent.whole) (of_rise c i)) in
+      let first = find_first g b.file calls b.other.named c.begun 5 q.opened rise b.opened.finds.falling x.step.place b.listed x.step.call b.other.call own b.own x.step.there b.other.there
+      (ap asked (sym s.2 ∙ ap (λ (y : Step). y.command) same) ∙ x.finds.asks) b.other.asks in
+      stands.rising x.step.place b.listed x.step.call b.other.call x.position position first x.step.there b.other.there x.step.placed placed
+
   -- it is not so of a whole file
   never_whole : SendsOnly (IsGetCommand g) c i calls → NeverWhole c i calls g.at g.id
   never_whole sends history legal stands first last is_first is_last leave whole size w =
@@ -275,6 +282,7 @@ module _ (c : Course) (i n : ℕ) (calls : List Call) (wire : ℤ) (g : GetTask)
         count = b.other.count;
         counted = b.other.counted;
         fetched = d.0;
+        later = found_before history stands x d.0 d.1;
         listed_so = record { done = 0; place = b.listed; sent = sent.opened b.listed b.own; call = b.other.call; there = b.other.there; placed = d.1 };
         lists = record { step = s.0; there = s.1; asks = ap asked s.2 ∙ b.other.asks };
         differ = d.2;

@@ -222,7 +222,7 @@ module _ (history : List Kept) (fates : List Fate) (kept : AreKept 0 fates) (cal
       where
         by_record : (was : Option FileRecord) → found ≡ was → IsListFor g was (fields call.command) → IsKind place call
         by_record None is lists = absurd lists
-        by_record (Some f) is lists = lists_its f.id lists (heard_key places f (heard f is))
+        by_record (Some f) is lists = lists_its f.id lists.1 (heard_key places f (heard f is))
 
         by_place : (n : ℕ) → IsFindAt g found n (fields call.command) → IsKind place call
         by_place zero is = absurd is

@@ -332,12 +332,12 @@ module _ (c : Course) (i : ℕ) (begun calls : List Call) (wire : ℤ) (begun_is
           let b = more_gives t.step (lawful t.step (at_once places sent (get_more at session) bytes h)) (subst IsSuccess t.reply_is success) at.id at.space (more_asks at told session t.step.command t.command_is) in
           tells_not bytes b.batch e (ap (λ (x : List ℕ). batch_of (fields x)) t.reply_is ∙ b.there) breaks
 
-      stops_well : (f : FileRecord) (listed : ℕ) (e : Error) → s.file ≡ f → SentIn c i 0 listed → ReadStops seen (ListsOther calls g.at f listed e) e → IsExcusedGet (IsHeard c i calls) g e
+      stops_well : {Many : Type 0} (f : FileRecord) (listed : ℕ) (e : Error) → s.file ≡ f → SentIn c i 0 listed → ReadStops seen Many (ListsOther calls g.at f listed e) e → IsExcusedGet (IsHeard c i calls) g e
       stops_well f listed e same own (stops.no_memory room) = inl room
       stops_well f listed e same own (stops.not_built at told cannot) = cannot_well at told e cannot
       stops_well f listed e same own (stops.no_batch at told fails) =
           inl (request_room places sent (get_more at fails.session) false TellsNoCursor e (λ bytes is. ap creates (more_asks at told fails.session bytes is)) (λ bytes h success breaks. more_tells at told fails.session bytes h success e breaks) fails.fails)
-      stops_well f listed e same own (stops.too_many never is) = absurd (never well.history well.legal well.stands well.own (among places sent) well.prompt)
+      stops_well f listed e same own (stops.too_many empty never is) = absurd (never well.history well.legal well.stands well.own (among places sent) well.prompt)
       stops_well f listed e same own (stops.differs other) =
           absurd (whole_never calls g.at g.id f listed e other well.history well.legal well.stands bytes s.size s.first (suc s.last) s.whole (s.read ∙ ap Ok same) leaves
           (own_between c i calls g sends well.history well.legal well.stands s.first s.last s.is_first s.is_last s.alone 0 listed own))

@@ -5,7 +5,15 @@ pub mod Orders
 pub mod GetWell
 pub mod Appended
 pub mod PutTold
+pub mod FindFirst
 pub mod Filed
+pub mod PutFiled
+pub mod RecordWritten
+pub mod RecordMade
+pub mod Behind
+pub mod PutParts
+pub mod PutLater
+pub mod Blaming
 pub mod Told
 pub mod Created
 pub mod Positions

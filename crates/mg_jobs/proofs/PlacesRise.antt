@@ -12,9 +12,13 @@ abbrev pub Rise : ℕ → List ℕ → Type 0
 Rise at [] = Unit {0}
 Rise at (p ∷ ps) = (at ≤ p) × Rise (suc p) ps
 
-rise_above : (ps : List ℕ) (a b : ℕ) → a ≤ b → Rise b ps → Rise a ps
+pub rise_above : (ps : List ℕ) (a b : ℕ) → a ≤ b → Rise b ps → Rise a ps
 rise_above [] a b less r = tt
 rise_above (p ∷ ps) a b less r = (let low : b ≤ p = r.0 in omega (arith, less, low), r.1)
+
+pub rise_first : (xs ys : List ℕ) (at : ℕ) → Rise at (xs ++ ys) → Rise at xs
+rise_first [] ys at r = tt
+rise_first (x ∷ xs) ys at r = (r.0, rise_first xs ys (suc x) r.1)
 
 rise_from : (at n : ℕ) (ps : List ℕ) → Rise (at + n) ps → Rise at (places_from at n ++ ps)
 rise_from at zero ps r = rise_above ps at (at + 0) (omega arith) r

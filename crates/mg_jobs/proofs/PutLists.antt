@@ -1,5 +1,5 @@
 -- What a server that holds nothing back tells a put of the indexes of its collections: each batch holds some, and nothing else, while some are left.
-use Rattle.std.proofs.Common.{◌≡◌, ◌≢◌, ◌⊎◌, ◌<◌, ◌≤◌, ◌+◌, ℕ, suc, ℤ, pos, Bool, true, false, List, [], ◌∷◌, ◌++◌, length, map, take, Option, Some, None, Ok, refl, sym, ap, ◌∙◌, subst, inl, inr, arith, length-append}
+use Rattle.std.proofs.Common.{◌≡◌, ◌≢◌, ◌⊎◌, ◌<◌, ◌≤◌, ◌+◌, ℕ, zero, suc, ℤ, pos, Bool, true, false, List, [], ◌∷◌, ◌++◌, length, map, take, Option, Some, None, Ok, refl, sym, ap, ◌∙◌, subst, inl, inr, arith, length-append}
 use Rattle.std.specs.Prelude.{if◌then◌else◌, option_and_then, option_map, unwrap_or}
 use Rattle.std.proofs.lemmas.List.{length-map}
 use Rattle.std.specs.Ordering.{int_eq}
@@ -36,13 +36,15 @@ use Rattle.mg_cursor.specs.Batches.{BreaksBatch, documents_of}
 use Rattle.mg_cursor.specs.Causes.{HeardMore, MoreFails, TellsNoCursor}
 use Rattle.mg_cursor.specs.Client.{ClientCursor, at_rest, behind_reply, get_more, new_client}
 use Rattle.mg_cursor.specs.Polling.{CannotAsk}
+use Rattle.mg_cursor.specs.Seeking.{most_empty}
 use Rattle.mg_gridfs.specs.Buckets.{ClientBucket}
 use Rattle.mg_gridfs.specs.Commands.{listing_lines}
 use Rattle.mg_gridfs.specs.Cursors.{indexes_query}
 use Rattle.mg_gridfs.specs.Indexes.{space_in}
 use Rattle.mg_gridfs.specs.declared.indexes.Place.{Place}
 use Rattle.mg_jobs.specs.Own.{IsOwnCursor}
-use Rattle.mg_players.specs.PutFailures.{AreInTurn, IsListBatch, IsListed, IsOfList, StandsBehindNone, brought, first_batch, held_by, held_in, next_batch}
+use Rattle.mg_players.specs.InTurn.{AreInTurn, empty_by, empty_with}
+use Rattle.mg_players.specs.PutFailures.{IsListBatch, IsListed, IsOfList, brought, first_batch, held_by, held_in, last_empty, next_batch}
 use Rattle.mg_jobs.specs.PutLimits.{CannotPut, HasFewIndexes, a_getMore}
 use Rattle.mg_players.specs.Puts.{PutTask, put_bucket}
 use Rattle.mg_players.specs.Gets.{no_manner}
@@ -111,6 +113,16 @@ few_by bytes batch (Some ds) is there =
 
 held_few : (bytes : List ℕ) (batch : Batch) → batch_of (fields bytes) ≡ Some batch → held_in bytes ≤ length batch.events
 held_few bytes batch there = few_by bytes batch (documents_of bytes) refl there
+
+-- a batch is one empty one at most
+one_alone : (o : Option (List (List ℕ))) → empty_with 0 o ≤ 1
+one_alone None = omega arith
+one_alone (Some []) = omega arith
+one_alone (Some (x ∷ xs)) = omega arith
+
+none_before : (n : ℕ) → (1 ≤ n → ⊥) → n ≡ 0
+none_before zero never = refl
+none_before (suc n) never = absurd (never (omega arith))
 
 grown_indexes : (s : State) (made : Made) (at : Space) → indexes_of (grown s made) at ≡ indexes_of s at
 unfolding grown
@@ -301,11 +313,11 @@ module _ (own : List ℕ) (history : List Step) (legal : IsLegal history) where
     resting_well c w = record { named = w.named; manner_is = w.manner_is; knows = w.knows; own_cursor = w.own_cursor }
 
     turn_more : (c : ClientCursor) (last place : ℕ) (bytes : List ℕ) (more : List (ℕ × List ℕ)) (at : ClientCursor) → AreInTurn past c last ((place, bytes) ∷ more) at → HeardMore past c bytes
-    turn_more c last place bytes more at are = record { session = are.1; heard = record { place = place; heard = are.2 }; success = are.3 }
+    turn_more c last place bytes more at are = record { session = are.2; heard = record { place = place; heard = are.3 }; success = are.4 }
 
     replies_well : (c : ClientCursor) (last : ℕ) (replies : List (ℕ × List ℕ)) (at : ClientCursor) → AreInTurn past c last replies at → ReadsWell c → ReadsWell at
     replies_well c last [] at are w = subst ReadsWell (sym are) (resting_well c w)
-    replies_well c last (h ∷ more) at are w = replies_well (behind_reply are.4 c) h.0 more at are.6 (behind_well c h.1 are.4 w (turn_more c last h.0 h.1 more at are) are.5)
+    replies_well c last (h ∷ more) at are w = replies_well (behind_reply are.5 c) h.0 more at are.7 (behind_well c h.1 are.5 w (turn_more c last h.0 h.1 more at are) are.6)
 
     list_well : (c : ClientCursor) → IsOfList past B c → ReadsWell c
     list_well c l = rested_well c (replies_well (new_client l.out) l.place l.replies (at_rest c) l.behind (opened_well l.at l.first l.out (record { place = l.place; heard = l.heard }) l.success l.opens))
@@ -334,11 +346,29 @@ module _ (own : List ℕ) (history : List Step) (legal : IsLegal history) where
     pub never_broken : (bytes : List ℕ) (e : Error) → IsListBatch past B bytes → BreaksBatch bytes e → ⊥
     never_broken bytes e batch breaks = let h = batch_holds bytes batch in breaks_not bytes h.batch e h.there breaks
 
-    pub never_empty : (c : ClientCursor) → StandsBehindNone past B c → c.id ≢ pos 0 → ⊥
-    never_empty c s held =
-        let h = batch_holds s.bytes s.stands.batch in
-        let none : h.batch.events ≡ [] = sym (events_are s.bytes h.batch [] h.there s.empty) in
-        held (sym s.stands.id_is ∙ sym (id_told s.bytes s.stands.said h.batch s.stands.says h.there) ∙ h.ends none)
+    -- ---- and no two batches are empty in a row
+
+    -- behind an empty one the cursor has ended
+    ended_behind : (bytes : List ℕ) (said : cursors.Cursor) (h : HoldsListed history bytes) → cursor_of (fields bytes) ≡ Ok said → (o : Option (List (List ℕ))) → documents_of bytes ≡ o → 1 ≤ empty_with 0 o → said.id ≡ pos 0
+    ended_behind bytes said h says None is some = absurd (let bad : 1 ≤ 0 = some in omega (arith, bad))
+    ended_behind bytes said h says (Some (x ∷ xs)) is some = absurd (let bad : 1 ≤ 0 = some in omega (arith, bad))
+    ended_behind bytes said h says (Some []) is some = sym (id_told bytes said h.batch says h.there) ∙ h.ends (sym (events_are bytes h.batch [] h.there is))
+
+    few_empty : (c : ClientCursor) (last n : ℕ) (replies : List (ℕ × List ℕ)) (at : ClientCursor) → AreInTurn past c last replies at → ReadsWell c → n ≤ 1 → (1 ≤ n → c.id ≡ pos 0) → empty_by n replies ≤ 1
+    few_empty c last n [] at are w few ends = few
+    few_empty c last n (h ∷ more) at are w few ends =
+        let m = turn_more c last h.0 h.1 more at are in
+        let none = none_before n (λ some. are.1 (ends some)) in
+        subst (λ (k : ℕ). empty_by (empty_with k (documents_of h.1)) more ≤ 1) (sym none)
+        (few_empty (behind_reply are.5 c) h.0 (empty_with 0 (documents_of h.1)) more at are.7 (behind_well c h.1 are.5 w m are.6) (one_alone (documents_of h.1)) (λ some. ended_behind h.1 are.5 (more_holds c h.1 w m) are.6 (documents_of h.1) refl some))
+
+    pub never_empty : (c : ClientCursor) (l : IsOfList past B c) → last_empty l ≡ most_empty → ⊥
+    never_empty c l many =
+        let h : HeardBy past (fields_in (listing_lines B l.at)) (reply l.first) = record { place = l.place; heard = l.heard } in
+        let said : cursors.Cursor = record { id = l.out.info.id; space = space l.out.info.ns; token = l.out.post_batch_resume_token; batch = l.opens.opens.batch } in
+        let few = few_empty (new_client l.out) l.place (empty_with 0 (documents_of l.first)) l.replies (at_rest c) l.behind (opened_well l.at l.first l.out h l.success l.opens) (one_alone (documents_of l.first))
+        (λ some. ended_behind l.first said (list_holds l.at l.first h l.success) l.opens.opens.says (documents_of l.first) refl some) in
+        omega (arith, few, many)
 
     index_read : (d : Fields) (i : Index) → d ≡ index_listed i → (e : Error) → FailsToRead (recorded (index_of d)) e → e.kind ≡ kind.OutOfMemory
     index_read d i is e (inl full) = ap (λ (x : Error). x.kind) full
@@ -367,13 +397,13 @@ module _ (own : List ℕ) (history : List Step) (legal : IsLegal history) where
       count_turn c last [] at q n are w known behind = omega arith
       count_turn c last (h ∷ more) at q n are w known behind =
           let m = turn_more c last h.0 h.1 more at are in
-          let command : Fields = get_more c are.1 in
-          let s = taken command h.1 m.heard (succeeded are.3) in
-          let asks = more_asks c are.1 s.step.command w.named s.command_is in
-          let k = next_counts command h.1 s are.3 c.id c.space w.knows asks q n known (behind h.0 command h.1 are.2 (succeeded are.3) are.0) in
-          let w' = behind_well c h.1 are.4 w m are.5 in
-          let same = id_told h.1 are.4 k.batch are.5 k.there in
-          let rest = count_turn (behind_reply are.4 c) h.0 more at s.position k.left are.6 w' (λ held. subst (IsFew history (suc s.position) k.left) same (k.few (λ zero. held (sym same ∙ zero)))) (λ place' command' bytes' h' k' less. rises h.0 place' command command' h.1 bytes' are.2 h' (succeeded are.3) k' less) in
+          let command : Fields = get_more c are.2 in
+          let s = taken command h.1 m.heard (succeeded are.4) in
+          let asks = more_asks c are.2 s.step.command w.named s.command_is in
+          let k = next_counts command h.1 s are.4 c.id c.space w.knows asks q n known (behind h.0 command h.1 are.3 (succeeded are.4) are.0) in
+          let w' = behind_well c h.1 are.5 w m are.6 in
+          let same = id_told h.1 are.5 k.batch are.6 k.there in
+          let rest = count_turn (behind_reply are.5 c) h.0 more at s.position k.left are.7 w' (λ held. subst (IsFew history (suc s.position) k.left) same (k.few (λ zero. held (sym same ∙ zero)))) (λ place' command' bytes' h' k' less. rises h.0 place' command command' h.1 bytes' are.3 h' (succeeded are.4) k' less) in
           let these = held_few h.1 k.batch k.there in
           let sum = k.sum in
           omega (arith, rest, these, sum)

@@ -42,7 +42,8 @@ use Rattle.mg_options.specs.Fields.{fields_in}
 use Rattle.mg_script.specs.declared.outcome.Ended.{Ended}
 use Rattle.mg_players.specs.Causes.{AllSentIn, Course, PutEnds, places_of, sent_at}
 use Rattle.mg_players.specs.Progress.{PutPlayed}
-use Rattle.mg_players.specs.PutFailures.{AreInTurn, HeardCreation, IsOfList}
+use Rattle.mg_players.specs.InTurn.{AreInTurn}
+use Rattle.mg_players.specs.PutFailures.{HeardCreation, IsOfList}
 use Rattle.mg_players.specs.Puts.{PutTask, Supply, put_bucket}
 use Rattle.mg_players.proofs.GetSteps.{query_opens}
 use Rattle.mg_players.proofs.Prompting.{lawful_at, prompted}
@@ -182,7 +183,7 @@ module _ (history : List Kept) (fates : List Fate) (kept : AreKept 0 fates) (cal
         by_replies [] are =
             let same : at_rest c ≡ at_rest (new_client l.out) = are in
             never_named c session place bytes (ap (λ (x : ClientCursor). x.id) same ∙ ended) (subst IsNamed (sym (ap (λ (x : ClientCursor). x.space) same)) named) h
-        by_replies (x ∷ more) are = never_named (new_client l.out) are.1 x.0 x.1 ended named are.2
+        by_replies (x ∷ more) are = are.1 ended
 
     -- ---- none that ends it is refused
 

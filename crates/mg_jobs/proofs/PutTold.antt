@@ -7,11 +7,12 @@ use Rattle.mg_gridfs.specs.UploadView.{upload_of}
 use Rattle.mg_players.specs.Causes.{AllSentIn, Course, HasWritten, PutEnds, PutEndsBy, commands_at, places_of, sent_at}
 use Rattle.mg_players.specs.Plays.{Places, all_places}
 use Rattle.mg_players.specs.Progress.{PutAt, pends_last}
-use Rattle.mg_players.specs.PutSends.{PutEndsSent}
+use Rattle.mg_players.specs.PutSends.{PutEndsSent, StopsSo}
 use Rattle.mg_players.specs.Puts.{PutTask, Supply, put_end}
 use Rattle.mg_players.specs.Telling.{AllSent, PutSaid, PutTells, put_number}
 use Rattle.mg_players.specs.declared.put.PutStage.{PutStage}
 use Rattle.mg_players.specs.declared.put.PutStage.TheVariants as puts
+use Rattle.mg_players.proofs.PutFailing.{caused_error}
 use Rattle.mg_players.proofs.PutOrder.{doing_some, none_some}
 use Rattle.mg_players.proofs.Whole.{only_now}
 use Rattle.mg_script.specs.declared.outcome.Ended.{Ended}
@@ -26,7 +27,7 @@ all_sent q none = ap (λ (l : List ℕ). l ++ (concat q.owns ++ q.now)) none
 
 -- one that has ended
 over_told : (awaited : Awaited) (c : Course) (i : ℕ) (calls : List Call) (wire : ℤ) (supply : Supply) (t : PutTask) (q : Places) (done : ℕ) (end : Ended ℕ) → AllSent c i q (suc done) → q.opened ≡ [] → length q.owns ≡ done → PutEndsBy (sent_at (all_places q) calls wire) (sent_at q.now calls wire) t end
-    → HasWritten t done end → PutSaid calls q (λ commands. PutEndsSent supply t commands end) → (pends_last i c.order c.notes ≡ false) → PutEnds awaited c i calls wire supply t end
+    → HasWritten t done end → PutSaid calls q (λ commands. PutEndsSent supply t (sent_at q.now calls wire) commands end) → (pends_last i c.order c.notes ≡ false) → PutEnds awaited c i calls wire supply t end
 over_told awaited c i calls wire supply t q done end sent none counted by all said quiet =
     record {
       owns = q.owns;
@@ -37,7 +38,7 @@ over_told awaited c i calls wire supply t q done end sent none counted by all sa
       by = subst (λ (l : List ℕ). PutEndsBy (sent_at l calls wire) (sent_at q.now calls wire) t end) (all_sent q none) by;
       waits = λ pended is. absurd (let bad : true ≡ false = sym pended ∙ quiet in cc);
       written = subst (λ (n : ℕ). HasWritten t n end) (sym counted) all;
-      sends = subst (λ (l : List ℕ). PutEndsSent supply t (commands_at calls l) end) sent.whole said.sends;
+      sends = subst (λ (l : List ℕ). PutEndsSent supply t (sent_at q.now calls wire) (commands_at calls l) end) sent.whole said.sends;
     }
 
 pub put_outcome : (awaited : Awaited) (c : Course) (i : ℕ) (calls : List Call) (wire : ℤ) (supply : Supply) (t : PutTask) (q : Places) (s : PutStage) (pieces done count k : ℕ) → PutTells awaited calls wire q supply t done s → AllSent c i q (put_number done s) → PutAt pieces s done count k (pends_last i c.order c.notes) → PutEnds awaited c i calls wire supply t (put_end s)
@@ -51,7 +52,7 @@ put_outcome awaited c i calls wire supply t q puts.Undrawn pieces done count k t
       by = tt;
       waits = λ pended is. absurd (let bad : true ≡ false = sym pended ∙ at.3 in cc);
       written = tt;
-      sends = (false, none_some supply t (commands_at calls (places_of c i)) (ap (commands_at calls) (sym sent.whole ∙ only_now q tells.0.0 tells.0.1 ∙ tells.0.2)));
+      sends = (false, none_some supply t (commands_at calls (places_of c i)) (ap (commands_at calls) (sym sent.whole ∙ only_now q tells.0.0 tells.0.1 ∙ tells.0.2)), λ bad. absurd cc);
     }
 put_outcome awaited c i calls wire supply t q (puts.Begins begun) pieces done count k tells sent at = absurd at
 put_outcome awaited c i calls wire supply t q (puts.Goes going) pieces done count k tells sent at =
@@ -65,7 +66,8 @@ put_outcome awaited c i calls wire supply t q (puts.Goes going) pieces done coun
       waits = λ pended is. record { upload = upload_of going.upload; aim_is = tells.0.aim_is; holds = at.3 ∙ pended; underway = tells.0.underway };
       written = tt;
       sends =
-          subst (λ (l : List ℕ). PutEndsSent supply t (commands_at calls l) ended.Unfinished) sent.whole
-          (doing_some supply t (commands_at calls (all_places q)) (upload_of going.upload).checked (upload_of going.upload).sent (upload_of going.upload).doing done count at.2 tells.0.said.sends);
+          subst (λ (l : List ℕ). PutEndsSent supply t (sent_at q.now calls wire) (commands_at calls l) ended.Unfinished) sent.whole
+          (doing_some supply t (commands_at calls (all_places q)) (upload_of going.upload).checked (upload_of going.upload).sent (StopsSo supply t (sent_at q.now calls wire)) (λ upto moment bad. absurd cc) (upload_of going.upload).doing done count at.2
+          (λ original is upto moment held yes. (original, caused_error t awaited (sent_at q.now calls wire) (upload_of going.upload).aim tells.0.aim_is (upload_of going.upload).doing original is tells.0.its tells.0.underway, held)) tells.0.said.sends);
     }
 put_outcome awaited c i calls wire supply t q (puts.Ended end) pieces done count k tells sent at = over_told awaited c i calls wire supply t q done end sent tells.0 tells.1 tells.2 tells.3 tells.4 at.1

@@ -1,5 +1,5 @@
 -- How puts end over a link that loses nothing, where their server holds nothing back.
-use Rattle.std.proofs.Common.{◌≡◌, ◌<◌, ◌≤◌, ◌+◌, ℕ, List, length, Bool, Option, ap, ◌∙◌, subst, inl, inr, arith}
+use Rattle.std.proofs.Common.{◌≡◌, ◌<◌, ◌≤◌, ◌+◌, ℕ, List, length, Bool, Option, Some, sym, ap, ◌∙◌, subst, inl, inr, arith}
 use Rattle.mg_bson.specs.Tree.{Fields}
 use Rattle.mg_link.specs.Calls.{HeardAt, HeardBy, Past}
 use Rattle.mg_link.specs.History.{IsLegal, Step}
@@ -22,6 +22,7 @@ use Rattle.mg_players.specs.PutFailures.{HasManyChunks, IsCommonKind, IsPutError
 use Rattle.mg_jobs.specs.PutLimits as limits
 use Rattle.mg_jobs.specs.PutLimits.{HasFewIndexes, IsExcusedPut, IsValidPut}
 use Rattle.mg_players.specs.Puts.{CannotOpen, PutTask, put_aim, put_bucket}
+use Rattle.mg_players.proofs.PutChecked.{next_of_check}
 use Rattle.mg_players.proofs.PutErrors.{NoLimit, first_limit, never_both}
 use Rattle.mg_jobs.proofs.PutHeard.{IsKnown, OwnStep, chunks_well, creation_well, deletion_well, find_well, index_well, listing_well, record_well}
 use Rattle.mg_jobs.proofs.PutLists as lists
@@ -50,7 +51,7 @@ module _ (own : List ℕ) (history : List Step) (legal : IsLegal history) (past 
 
   check_well : (e : Error) → PutCheckFails past (put_bucket t) e → Excused e
   check_well e (fails.out_of_memory full) = room e full
-  check_well e (fails.not_built lines its cannot) = inr (limits.in_check lines its cannot)
+  check_well e (fails.not_built lines its cannot) = inr (limits.in_check lines (next_of_check past (put_bucket t) lines its) cannot)
   check_well e (fails.by_find failed) = room e (find_well past own history t lost taken files chunks e failed)
   check_well e (fails.by_creation at failed other) = room e (creation_well past own history t lost taken files chunks e at other failed)
   check_well e (fails.by_listing at created failed) = room e (listing_well past own history t lost taken files chunks e at created failed)
@@ -58,7 +59,7 @@ module _ (own : List ℕ) (history : List Step) (legal : IsLegal history) (past 
   check_well e (fails.not_asked c l cannot) = inr (asked_excused own history legal past heard t lost taken hears files chunks c e l cannot)
   check_well e (fails.by_more c l failed) = room e (more_well own history legal past heard t lost taken hears files chunks c e l failed)
   check_well e (fails.broken bytes batch breaks) = absurd (never_broken own history legal past heard t lost taken hears files chunks bytes e batch breaks)
-  check_well e (fails.stays_empty c stands held is) = absurd (never_empty own history legal past heard t lost taken hears files chunks c stands held)
+  check_well e (fails.stays_empty c l many is) = absurd (never_empty own history legal past heard t lost taken hears files chunks c l many)
   check_well e (fails.no_index document listed failed) = room e (lists.index_well own history legal past heard t lost taken hears files chunks document e listed failed)
   check_well e (fails.too_many c l many is) = absurd (never_too_many own history legal past heard t lost taken hears files chunks rises few c l many)
 
@@ -77,16 +78,16 @@ module _ (own : List ℕ) (history : List Step) (legal : IsLegal history) (past 
   undone_by original d e full (steps.no_memory also same) = ap (λ (x : Error). x.kind) same ∙ full
   undone_by original d e full (steps.holds_both other failed) = absurd (other full)
 
-  removal_well : (original : Option Error) (d e : Error) → RemovalFails past (put_aim t) d → FailsToUndo original d e → Excused e
-  removal_well original d e (causes.out_of_memory full) both = room e (undone_by original d e full both)
-  removal_well original d e (causes.not_built cannot) both = inr (limits.a_removal original d cannot both)
-  removal_well original d e (causes.by_deletion failed) both = room e (undone_by original d e (deletion_well past own history t lost taken files chunks d failed) both)
+  removal_well : (original d e : Error) → IsPutError t original → RemovalFails past (put_aim t) d → FailsToUndo (Some original) d e → Excused e
+  removal_well original d e its (causes.out_of_memory full) both = room e (undone_by (Some original) d e full both)
+  removal_well original d e its (causes.not_built cannot) both = inr (limits.a_removal original d its cannot both)
+  removal_well original d e its (causes.by_deletion failed) both = room e (undone_by (Some original) d e (deletion_well past own history t lost taken files chunks d failed) both)
 
   call_well : (e : Error) → PutFails past t e → Excused e
-  call_well e (fails.check_fails failed) = check_well e failed
-  call_well e (fails.not_taken is) = room e (ap (λ (x : Error). x.kind) is)
-  call_well e (fails.first_error first its removed) = upload_well e its first
-  call_well e (fails.not_removed original d first failed both) = removal_well original d e failed both
+  call_well e (fails.early (fails.check_fails failed)) = check_well e failed
+  call_well e (fails.early (fails.not_taken is)) = room e (ap (λ (x : Error). x.kind) is)
+  call_well e (fails.late original first (fails.first_error removed is)) = subst Excused (sym is) (upload_well original first.of_put first.by_upload)
+  call_well e (fails.late original first (fails.not_removed d failed both)) = removal_well original d e first.of_put failed both
 
   opening_well : (e : Error) → CannotOpen t e → Excused e
   opening_well e (inl full) = room e (ap (λ (x : Error). x.kind) full)

@@ -3,7 +3,7 @@ use Rattle.std.proofs.Common.{◌≡◌, ◌≤◌, ◌+◌, ℕ, zero, suc, ℤ
 use Rattle.std.specs.Prelude.{if◌then◌else◌, ◌&&◌, codes, is_some, option_and_then}
 use Rattle.std.specs.List.{filter}
 use Rattle.mg_bson.specs.Tree.{Tree, document, array, int32, int64, string, Fields, field}
-use Rattle.mg_bson.specs.Bytes.{bytes, fields_bytes, items_bytes, items_depth}
+use Rattle.mg_bson.specs.Bytes.{fields_bytes, items_bytes, items_depth}
 use Rattle.mg_bson.specs.Find.{as_int32, get}
 use Rattle.mg_bson.specs.Literal.{◌⇒◌⨾◌, empty}
 use Rattle.mg_link.specs.Filter.{matches, meets}

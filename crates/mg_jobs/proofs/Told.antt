@@ -68,7 +68,8 @@ use Rattle.mg_gridfs.proofs.Fronts.{nobody_onward}
 use Rattle.mg_players.specs.Puts.{IsMoment, Supply, writes}
 use Rattle.mg_jobs.proofs.OwnCursors.{own_first, own_turn}
 use Rattle.mg_jobs.proofs.PutTold.{put_outcome}
-use Rattle.mg_jobs.proofs.Filed.{get_filed, put_filed}
+use Rattle.mg_jobs.proofs.Filed.{get_filed}
+use Rattle.mg_jobs.proofs.PutFiled.{put_filed}
 use Rattle.mg_players.proofs.JobTelling.{first_tells, job_later, job_of_others, number_at}
 use Rattle.mg_players.proofs.Newest.{newest_other, newest_own, none_sent, started_in}
 use Rattle.mg_players.proofs.OwnTickets.{none_if}
@@ -456,12 +457,13 @@ outcome_of_job supply ts awaited c i calls wire (player.Follow job) r o at of is
     let count : ℕ = job.watched.calls in
     subst (λ (x : Outcome). OutcomeOfTask supply ts awaited c i calls wire (task_of (player.Follow job)) x) (sym of)
     (follow_outcome awaited c i calls wire job at o plays t count (turns_done i c.order c.notes) (pends_last i c.order c.notes) is_at o plays, stage_caused awaited c i calls wire job at o plays t job.stage count refl is_at t, tt)
-outcome_of_job supply ts awaited c i calls wire (player.Put job) r o at of is_at plays told = (
-  tt,
-  subst (λ (x : Outcome). OutcomeCaused awaited c i calls wire (supply_of supply ts c.order i) (as_sent supply.ids ts c.order i (task_of (player.Put job))) x) (sym of)
-      (put_outcome awaited c i calls wire (supply_of supply ts c.order i) (writes job.what) told.places job.stage (length (pieces job.what.pieces.now)) job.done (length job.what.pieces.now) (turns_done i c.order c.notes) told.tells told.sent is_at),
-  subst (λ (x : Outcome). OutcomeFiled c i calls (task_of (player.Put job)) x) (sym of) (put_filed awaited c i (number_of (player.Put job)) calls wire (supply_of supply ts c.order i) (writes job.what) told.places job.done job.stage told.tells told.sent),
-)
+outcome_of_job supply ts awaited c i calls wire (player.Put job) r o at of is_at plays told =
+    let mine : Supply = supply_of supply ts c.order i in
+    let ends_so = put_outcome awaited c i calls wire mine (writes job.what) told.places job.stage (length (pieces job.what.pieces.now)) job.done (length job.what.pieces.now) (turns_done i c.order c.notes) told.tells told.sent is_at in (
+      tt,
+      subst (λ (x : Outcome). OutcomeCaused awaited c i calls wire mine (as_sent supply.ids ts c.order i (task_of (player.Put job))) x) (sym of) ends_so,
+      subst (λ (x : Outcome). OutcomeFiled c i calls (task_of (player.Put job)) x) (sym of) (put_filed awaited c i (number_of (player.Put job)) calls wire mine (writes job.what) told.places job.done job.stage told.tells told.sent ends_so),
+    )
 outcome_of_job supply ts awaited c i calls wire (player.Get job) r o at of is_at plays told =
     subst (λ (x : Outcome). OutcomeOfTask supply ts awaited c i calls wire (task_of (player.Get job)) x) (sym of) (
       tt,

@@ -12,6 +12,7 @@ use Rattle.mg_link.specs.Log.{Call}
 use Rattle.mg_link.specs.Owner.{NamesItsOwn}
 use Rattle.mg_link.specs.Places.{out_at, polls_in}
 use Rattle.mg_link.specs.Standing.{Stands}
+use Rattle.mg_players.specs.Blaming.{GetsBehind}
 use Rattle.mg_players.specs.Causes.{AllPollOwn, AllWaitAlone, OutcomeCaused, course}
 use Rattle.mg_jobs.specs.Completing.{AnswersWellIn, JobWell, JobWellIn, NoneRefused}
 use Rattle.mg_players.specs.Counts.{AreNoted, turns_pended}
@@ -87,7 +88,8 @@ script_supply script = supplied (script_ids script) script.moment.millis
 -- What the jobs of a run over one link came to. The link's log stands in the history of the run's own store, which is legal and whose steps are by the
 -- rules; the ids that are printed as open are those of the cursors in the state that it leads to; each of its calls is as the fate of its number in the script says, and each of them names the log's own cursors only. In every legal history in
 -- which the log stands each follow answered consecutive entries from its own opening place on, and each get that ended well gave the bytes of its file; each answer of a follow has its cause among the commands of
--- its own turns; each put that ended well left its file whole, where nobody else touched it; each insert sends its documents with the script's next ids. There is one outcome for each job and one note for each turn, by which it
+-- its own turns; each put that ended well left its file whole, where nobody else touched it, and however one ended its file is whole behind its record up to a step that is to remove its chunks; each insert sends its documents with the script's next ids. A get that blames a
+-- chunk of a file which a job puts, and nobody else touches, listed the chunks only behind a step by which that job was to remove them. There is one outcome for each job and one note for each turn, by which it
 -- follows how far each job came. Each note says rightly whether its turn pended: one poll pended in it, or none, and that of the newest command which its
 -- job sent up to then, by the notes; and each call pended as often as its fate says, or less while it waits. A call that waits was sent in a turn of a job
 -- whose newest turn pended by its note, and which waits for no other. Each command that a turn sent, by the notes, is one that its job may send: what a put stores has
@@ -108,6 +110,7 @@ pub record RunFollowed (run : Run) : Type 0 where
   pub turns_are : run.turns.items ≡ turns ∷ []
   pub followed : (i : ℕ) (t : Task) (r : Outcome) → slice_get (tasks run.script.jobs.items) i ≡ Some t → slice_get run.outcomes.items i ≡ Some r → OutcomeFollowed (course [] run.script.order.items turns.items) i calls t r
   pub filed : (i : ℕ) (t : Task) (r : Outcome) → slice_get (tasks run.script.jobs.items) i ≡ Some t → slice_get run.outcomes.items i ≡ Some r → OutcomeFiled (course [] run.script.order.items turns.items) i calls t r
+  pub behind : GetsBehind (course [] run.script.order.items turns.items) calls (tasks run.script.jobs.items) run.outcomes.items
   pub own : NamesItsOwn calls
   pub caused : (i : ℕ) (t : Task) (r : Outcome) → slice_get (tasks run.script.jobs.items) i ≡ Some t → slice_get run.outcomes.items i ≡ Some r
       → OutcomeCaused (out_at calls) (course [] run.script.order.items turns.items) i calls run.script.wire (supply_of (script_supply run.script) (tasks run.script.jobs.items) run.script.order.items i) (as_sent (script_ids run.script) (tasks run.script.jobs.items) run.script.order.items i t) r

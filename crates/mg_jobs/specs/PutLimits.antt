@@ -1,5 +1,5 @@
 -- What a put has to store and to send, and which puts are valid.
-use Rattle.std.specs.Prelude.{◌≡◌, ◌⊎◌, ◌<◌, ◌≤◌, ◌*◌, ◌^◌, Contains, ℕ, ℤ, List, length, take, Option, Some, slice_get}
+use Rattle.std.specs.Prelude.{◌≡◌, ◌⊎◌, ◌<◌, ◌≤◌, ◌*◌, ◌^◌, Contains, ℕ, ℤ, List, length, take, Some, slice_get}
 use Rattle.mg_link.specs.History.{Step, state_of}
 use Rattle.mg_link.specs.Namespace.{Space}
 use Rattle.mg_link.specs.State.{indexes_of}
@@ -14,7 +14,7 @@ use Rattle.mg_gridfs.specs.Indexes.{space_in}
 use Rattle.mg_gridfs.specs.Steps.{FailsToUndo}
 use Rattle.mg_gridfs.specs.declared.indexes.Place.{Place}
 use Rattle.mg_jobs.specs.Own.{IsOwnCursor}
-use Rattle.mg_players.specs.PutFailures.{NotBuilt}
+use Rattle.mg_players.specs.PutFailures.{IsPutError, NotBuilt}
 use Rattle.mg_players.specs.Puts.{NamesFiles, PutTask, put_aim, put_bucket, total}
 use Rattle.mg_players.specs.Gets.{no_manner}
 
@@ -26,7 +26,7 @@ pub data CannotPut (heard : List ℕ → Type 0) (t : PutTask) (e : Error) : Typ
   of_file : NotBuilt (put_aim t) e → CannotPut heard t e
   in_check : (lines : List Line) → IsOfCheck (put_bucket t) lines → CannotSend lines e → CannotPut heard t e
   a_getMore : (id : ℤ) (space : Space) → IsOwnCursor heard id space → CannotBeSent (next_command id space no_manner) e → CannotPut heard t e
-  a_removal : (original : Option Error) (d : Error) → CannotSend (deletion_lines (put_bucket t) t.id) d → FailsToUndo original d e → CannotPut heard t e
+  a_removal : (original d : Error) → IsPutError t original → CannotSend (deletion_lines (put_bucket t) t.id) d → FailsToUndo (Some original) d e → CannotPut heard t e
 
 -- memory ran out, or something of it is not built
 abbrev pub IsExcusedPut : (List ℕ → Type 0) → PutTask → Error → Type 0

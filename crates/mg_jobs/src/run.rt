@@ -9,6 +9,7 @@ ghost use Rattle.mg_ops.specs.Drawn.{AreLater};
 ghost use Rattle.mg_players.specs.Drawing.{DrawsAt, HaveDrawn, drawn_in, supplied};
 ghost use Rattle.mg_players.specs.Runs.{AreHeld, AreNew, AreSameJobs, CanGo, Draws, Goes, IsReady, IsSameJob, has_ended, idle};
 ghost use Rattle.mg_jobs.specs.Runners.{Stands, job_ended, notes_of, players_of};
+ghost use Rattle.mg_players.specs.Blaming.{AllBehind};
 ghost use Rattle.mg_players.specs.Headline.{AllFiled, AllFollowed, AreFirst, GoesOnNaming, DoTasks, Knowing, OutcomesOf};
 ghost use Rattle.mg_script.specs.Plan.{Task, tasks};
 ghost use Rattle.mg_players.specs.Progress.{AllAt, AllPlayed, GoesBy, TurnsBy};
@@ -326,10 +327,14 @@ pub fn run_jobs<L: Link, I: IdSource>(
     // Each follow answers consecutive matching entries from the opening place of its own aggregate on, each once, in order,
     // just up to its token, also after errors.
     ensures followed { IfOk result (λ p. AllFollowed (L.log link.old) (L.log link.new) (tasks jobs.now) order.now p.turns.items p.outcomes.items) }
-    // Over an honest link each put that ended well left its file whole, where nobody else touched it, and each get that ended
-    // well gave the bytes of the file that stood whole before its first step and that nobody touched up to its last one.
+    // Over an honest link each put that ended well left its file whole, where nobody else touched it, and however one ended, its
+    // file is whole behind its record up to a step that is to remove its chunks; and each get that ended well gave the bytes of
+    // the file that stood whole before its first step and that nobody touched up to its last one.
     // No get blames a chunk of such a file: it does so only where those that stood are not what their record says.
     ensures filed { IfOk result (λ p. AllFiled (L.log link.old) (L.log link.new) (tasks jobs.now) order.now p.turns.items p.outcomes.items) }
+    // A get blames a chunk of a file that a put of the run writes, and nobody else touches, only where it listed the chunks
+    // behind a step by which the put was to remove them.
+    ensures behind { IfOk result (λ p. AllBehind (L.log link.old) (L.log link.new) (tasks jobs.now) order.now p.turns.items p.outcomes.items) }
     // Each insert drew the source's next ids in its first turn, one for each of its documents that has none; each put one for each
     // of its chunks.
     ensures drawn { IfOk result (λ p. AreLater (I.ids ids.old) (drawn_in (tasks jobs.now) order.now) (I.ids ids.new)) }

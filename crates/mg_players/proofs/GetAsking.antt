@@ -1,5 +1,5 @@
 -- The finds that the polls of a get's opening send: at which places, and which record was heard by then.
-use Rattle.std.proofs.Common.{◌≡◌, ◌<◌, ◌≤◌, ℕ, zero, suc, ℤ, true, List, [], ◌∷◌, length, Option, Some, None, refl, sym, ap, ◌∙◌, subst, arith}
+use Rattle.std.proofs.Common.{◌≡◌, ◌≢◌, ◌<◌, ◌≤◌, ℕ, zero, suc, ℤ, true, List, [], ◌∷◌, length, Option, Some, None, refl, sym, ap, ◌∙◌, subst, arith}
 use Rattle.mg_bson.specs.Raw.{fields}
 use Rattle.mg_bson.specs.Tree.{Fields, Tree}
 use Rattle.mg_link.specs.Calls.{AddsOnly, Flies, Keeps, past_of}
@@ -138,12 +138,12 @@ module _ (g : GetTask) (places : List ℕ) (since : ℕ) (wire : ℤ) where
       list_came (came.Done bytes) runs (findings.broke e why is) = list_by (findings.fails e) is tt (list_sent (came.Done bytes) runs)
       list_came (came.Failed e) runs h = list_by (findings.fails e) h tt (list_sent (came.Failed e) runs)
 
-    lists_asked : (old new : Awaited) (log log' : LogTold) (f : FileRecord) (count : ℕ) (s : Sending) (r : Opened) (was : Option FileRecord) → IsKept was (Some f) → (calls : List Call) → log ≡ Some calls → since ≤ length calls → fields s.command ≡ fields_in (listed_lines b f.id) → s.retries ≡ true
+    lists_asked : (old new : Awaited) (log log' : LogTold) (f : FileRecord) (count : ℕ) (s : Sending) (r : Opened) (was : Option FileRecord) → IsKept was (Some f) → (calls : List Call) → log ≡ Some calls → since ≤ length calls → f.length ≢ 0 → fields s.command ≡ fields_in (listed_lines b f.id) → s.retries ≡ true
         → Flies old (past_of places since calls wire) (fields_in (listed_lines b f.id)) s.stage → HeardRecord (past_of places since calls wire) b id (Some f) → ListsOn old new log log' wire f count s r → Asked log log' was (resuming_places s.stage) r
-    lists_asked old new log log' f count s r was kept calls told room command retries flies heard on =
+    lists_asked old new log log' f count s r was kept calls told room some command retries flies heard on =
         let ran = request_ran old new log log' wire s (fields_in (listed_lines b f.id)) true on.came command retries on.runs calls told places since room flies in
         let later = heard_its ran.calls' f (record_grows (past_of places since calls wire) (past_of places since ran.calls' wire) ran.grows b id (Some f) heard) in
-        list_came old new log log' f count s r was kept ran.calls' ran.told later (is_list f.id (fields s.command) command) on.came on.runs on.hears
+        list_came old new log log' f count s r was kept ran.calls' ran.told later (some, is_list f.id (fields s.command) command) on.came on.runs on.hears
 
     -- what is built flies nowhere yet
     flies_new : (awaited : Awaited) (calls : List Call) (lines : List Line) (s : Sending) → s.stage ≡ unsent → Flies awaited (past_of places since calls wire) (fields_in lines) s.stage
@@ -157,7 +157,7 @@ module _ (g : GetTask) (places : List ℕ) (since : ℕ) (wire : ℤ) where
     opens_asked old new log log' f r calls told room heard (findings.not_built some e why none is) = quietly old new log log' calls None 3 r (findings.fails e) told none is tt (omega arith) (no_record calls)
     opens_asked old new log log' f r calls told room heard (findings.listed some count counted s new_one on) =
         subst (λ (n : ℕ). Asked log log' None n r) (ap resuming_places new_one.new)
-        (lists_asked old new log log' f count s r None (none_kept (Some f)) calls told room new_one.command_is new_one.retries_is (flies_new old calls (listed_lines b f.id) s new_one.new) heard on)
+        (lists_asked old new log log' f count s r None (none_kept (Some f)) calls told room some new_one.command_is new_one.retries_is (flies_new old calls (listed_lines b f.id) s new_one.new) heard on)
 
     hears_asked : (old new : Awaited) (log log' : LogTold) (bytes : List ℕ) (r : Opened) (calls : List Call) → log ≡ Some calls → since ≤ length calls → ((f : FileRecord) → findings.ReadsRecord bytes (Some f) → HeardRecord (past_of places since calls wire) b id (Some f))
         → HearsRecord old new log log' wire b id bytes r → Asked log log' None 3 r
@@ -231,7 +231,7 @@ module _ (g : GetTask) (some : 0 < g.read) where
   -- each find is one that a get may send
   find_may : (found : Option FileRecord) (command : Fields) → IsListFor g found command → IsGetCommand g command
   find_may None command is = absurd is
-  find_may (Some f) command is = for_chunks some f.id is
+  find_may (Some f) command is = for_chunks some f.id is.1
 
   may_at : (found : Option FileRecord) (place : ℕ) (command : Fields) → IsFindAt g found place command → IsGetCommand g command
   may_at found zero command is = absurd is
@@ -262,9 +262,10 @@ module _ (g : GetTask) (old new : Awaited) (log log' : LogTold) (wire : ℤ) (o 
       let own = sound_at b (findings.finds s) is at in
       of_doing (findings.finds s) at (finds_asked g now (length calls) wire b (aim.placed b is) o.id aim.id_is old new log log' s r calls told room own.command_is own.retries_is (under_at b (findings.finds s) is at) on)
   asked_by (findings.lists_on b is f count s at on) =
-      let own = (sound_at b (findings.lists f count s) is at).request in
+      let listing = sound_at b (findings.lists f count s) is at in
+      let own = listing.request in
       let h = under_at b (findings.lists f count s) is at in
-      of_doing (findings.lists f count s) at (lists_asked g now (length calls) wire b (aim.placed b is) o.id aim.id_is old new log log' f count s r (Some f) (λ x e. e) calls told room own.command_is own.retries_is h.0 h.1 on)
+      of_doing (findings.lists f count s) at (lists_asked g now (length calls) wire b (aim.placed b is) o.id aim.id_is old new log log' f count s r (Some f) (λ x e. e) calls told room (λ none. omega (arith, none, listing.some)) own.command_is own.retries_is h.0 h.1 on)
 
   abbrev asked : By o.doing
   asked = asked_by opens

@@ -47,7 +47,8 @@ use Rattle.mg_gridfs.specs.Findings.{BreaksRecord, GivesFirst, in_batch, is_foun
 use Rattle.mg_gridfs.specs.ReadCauses as files
 use Rattle.mg_gridfs.specs.ReadCauses.{HeardRecord, TellsNoRecord}
 use Rattle.mg_gridfs.proofs.OpeningKnown.{found_asks}
-use Rattle.mg_players.specs.Causes.{sent_at}
+use Rattle.mg_players.specs.Causes as causes
+use Rattle.mg_players.specs.Causes.{Course, GetFails, sent_at}
 use Rattle.mg_players.specs.Files.{AsksAt, BlamesChunk}
 use Rattle.mg_players.specs.Gets.{GetTask, get_bucket, record_find}
 use Rattle.mg_players.specs.Plays.{Places, all_places}
@@ -160,12 +161,12 @@ opening_blames past g e (files.too_many f h breaks) b = count_blames f.length f.
 opening_blames past g e (files.list_not_built f h cannot) b = unsent_blames (listed_lines (get_bucket g.at) f.id) e cannot b
 opening_blames past g e (files.by_list f h fails) b = request_blames past (fields_in (listed_lines (get_bucket g.at) f.id)) true TellsNoCursor e (λ bytes breaks. broken_blames (fields bytes) e breaks b) fails b
 
-stops_other : (past : Past) (other : Type 0) (e : Error) → ReadStops past other e → BlamesChunk e.kind → other
+stops_other : {many : Type 0} (past : Past) (other : Type 0) (e : Error) → ReadStops past many other e → BlamesChunk e.kind → other
 stops_other past other e (stops.no_memory room) b = absurd (no_memory_blames e room b)
 stops_other past other e (stops.not_built at told (inl bad)) b = absurd (blames_by e (kind.InvalidArgument argument.BatchSize) bad.0 b)
 stops_other past other e (stops.not_built at told (inr by)) b = absurd (blames_by e kind.BsonSerialization by.0 b)
 stops_other past other e (stops.no_batch at told fails) b = absurd (request_blames past (get_more at fails.session) false TellsNoCursor e (λ bytes breaks. broken_blames (fields bytes) e breaks b) fails.fails b)
-stops_other past other e (stops.too_many never is) b = absurd (blames_by e kind.EmptyBatches is b)
+stops_other past other e (stops.too_many empty never is) b = absurd (blames_by e kind.EmptyBatches is b)
 stops_other past other e (stops.differs differ) b = differ
 
 -- it listed the chunks of the file whose record it heard, and they are not what that says
@@ -183,6 +184,14 @@ blamed calls wire q g done e (tells.has_no_room none is) b = absurd (blames_by e
 blamed calls wire q g done e (tells.not_opened some silent first fails) b = absurd (opening_blames (sent_at q.now calls wire) g e fails b)
 blamed calls wire q g done e (tells.not_read some more d at opened cursor fails its sound plain counted listed of held why) b =
     record { file = d.file; at = at; opened = opened; listed = listed; own = of; other = stops_other (sent_at (all_places q) calls wire) (ListsOther calls g.at d.file listed e) e why b }
+
+-- the database of a get that blames one has a name
+pub blamed_named : (c : Course) (i : ℕ) (calls : List Call) (wire : ℤ) (g : GetTask) (bytes : ℕ) (e : Error) → GetFails c i calls wire g bytes e → BlamesChunk e.kind → IsNamed (chunks_space g.at)
+blamed_named c i calls wire g bytes e (causes.out_of_memory room) b = absurd (no_memory_blames e room b)
+blamed_named c i calls wire g bytes e (causes.has_no_room none is) b = absurd (blames_by e (kind.InvalidArgument argument.ReadSize) is b)
+blamed_named c i calls wire g bytes e (causes.not_opened some places sent fails whole) b = absurd (opening_blames (sent_at places calls wire) g e fails b)
+blamed_named c i calls wire g bytes e (causes.not_read some d opened k more places sent cursor fails its sound plain all stopped) b =
+    (stops_other (sent_at stopped.places calls wire) (ListsOther calls g.at d.file stopped.listed e) e stopped.why b).named
 
 -- ---- the record that it found
 

@@ -151,12 +151,12 @@ module _ (past : Past) (history : List Step) (legal : IsLegal history) (stands :
       let s = more_step past history legal stands at bytes (told_named past at told) (record { session = session; heard = h; success = success }) in
       tells_not bytes s.1.batch e (ap (λ (b : List ℕ). batch_of (fields b)) s.0.reply_is ∙ s.1.there) breaks
 
-  stops_says : (Other : Type 0) (e : Error) → ReadStops past Other e → SaysBroken e.kind → Other
+  stops_says : {Many : Type 0} (Other : Type 0) (e : Error) → ReadStops past Many Other e → SaysBroken e.kind → Other
   stops_says Other e (stops.no_memory room) b = absurd (memory_says e room b)
   stops_says Other e (stops.not_built at told (inl bad)) b = absurd (says_by e (kind.InvalidArgument argument.BatchSize) bad.0 b)
   stops_says Other e (stops.not_built at told (inr by)) b = absurd (says_by e kind.BsonSerialization by.0 b)
   stops_says Other e (stops.no_batch at told fails) b = absurd (request_says (get_more at fails.session) false TellsNoCursor ⊥ e (λ bytes h success breaks. more_tells at told e fails.session bytes h success breaks) fails.fails b)
-  stops_says Other e (stops.too_many never is) b = absurd (says_by e kind.EmptyBatches is b)
+  stops_says Other e (stops.too_many empty never is) b = absurd (says_by e kind.EmptyBatches is b)
   stops_says Other e (stops.differs other) b = other
 
 -- A get that says so found such a record, or chunks that are not what it says.

@@ -115,7 +115,7 @@ module _ (f : FileRecord) (count : ℕ) (whole : List ℕ) (size : ℕ) (long : 
       cc
 
   -- no chunk of a whole file differs, and there are as many as its record says
-  never_differ : (stood : List Fields) (e : Error) → AreChunks 0 (chunked size whole) stood → Differ f count stood e → ⊥
+  pub never_differ : (stood : List Fields) (e : Error) → AreChunks 0 (chunked size whole) stood → Differ f count stood e → ⊥
   never_differ stood e are (one_differs before chunks d left is received bad) =
       let cut = are_cut (chunked size whole) before (d ∷ left) (subst (AreChunks 0 (chunked size whole)) is are) in
       never_other cut.before cut.rest (length chunks) d left e cut.these (cut.long ∙ sym (received_many f 0 chunks before received)) cut.are bad

@@ -1,9 +1,9 @@
 -- How the cursor of a read stands behind its batches, and why the read fails.
-use Rattle.std.proofs.Common.{◌≡◌, ◌≢◌, ◌⊎◌, ◌≤◌, ◌++◌, ◌+◌, ◌-◌, ℕ, zero, suc, ℤ, pos, Bool, true, List, [], ◌∷◌, length, take, Some, None, Ok, Err, refl, sym, ap, ◌∙◌, subst, inl, inr, arith, length-append, append_assoc}
+use Rattle.std.proofs.Common.{◌≡◌, ◌≢◌, ◌⊎◌, ◌<◌, ◌≤◌, ◌++◌, ◌+◌, ◌-◌, ℕ, zero, suc, ℤ, pos, Bool, true, List, [], ◌∷◌, length, take, Some, None, Ok, Err, refl, sym, ap, ◌∙◌, subst, inl, inr, arith, length-append, append_assoc}
 use Rattle.std.specs.List.{concat}
 use Rattle.std.proofs.lemmas.List.Folds.{concat-append}
 use Rattle.mg_bson.specs.Raw.{fields, items}
-use Rattle.mg_bson.specs.Tree.{Fields, Items}
+use Rattle.mg_bson.specs.Tree.{Fields, Items, no_items}
 use Rattle.mg_link.specs.Calls.{Grows, Keeps, Past, past_of}
 use Rattle.mg_link.specs.Commands.{Batch, batch_of}
 use Rattle.mg_link.specs.Errors.{plain}
@@ -26,10 +26,10 @@ use Rattle.mg_link.proofs.Pasts.{heard_reply}
 use Rattle.mg_ops.specs.Cursors.{Cursor, batch_at, cursor_of}
 use Rattle.mg_ops.proofs.Asking.{asks_for_more}
 use Rattle.mg_ops.proofs.Replying.{same_id}
-use Rattle.mg_cursor.specs.Batches.{NoBatchIn}
+use Rattle.mg_cursor.specs.Batches.{NoBatchIn, documents_of}
 use Rattle.mg_cursor.specs.Causes.{HeardMore, IsUnderway, NextCame}
 use Rattle.mg_cursor.specs.Client as client
-use Rattle.mg_cursor.specs.Client.{ClientCursor, IsAsking, IsSound, get_more}
+use Rattle.mg_cursor.specs.Client.{ClientCursor, IsSound, get_more}
 use Rattle.mg_cursor.specs.Polling.{Hears, PollsNext, ReadsReply, begins, broke, gave, goes_on, hands_out, is_over, not_built}
 use Rattle.mg_cursor.specs.Reading.{batch_documents, in_reply, reader_in, told_next}
 use Rattle.mg_cursor.specs.declared.polls.NextPoll.{NextPoll}
@@ -50,11 +50,14 @@ use Rattle.mg_gridfs.proofs.Fronts.{nobody_onward}
 use Rattle.mg_gridfs.proofs.Received.{batch_is, received_behind, reply_documents}
 use Rattle.mg_players.specs.Gets.{GetTask, chunks_find}
 use Rattle.mg_players.specs.Reading as stops
-use Rattle.mg_players.specs.Reading.{IsListed, IsQueried, ListsOther, ReadStops, WherePrompt, empties}
+use Rattle.mg_players.specs.InTurn.{empty_with, newest}
+use Rattle.mg_players.specs.Reading.{CountsRow, HeardEmpty, HeardHeld, IsListed, IsQueried, ListsOther, ReadStops, WherePrompt, empties}
+use Rattle.mg_players.proofs.GetCounting.{count_behind, count_of, counts_behind, counts_grow, counts_waiting, few_behind, heard_too_many, none_in_batch, took_on}
 use Rattle.mg_players.proofs.GetDiffering.{batch_differs}
 use Rattle.mg_players.proofs.GetListing.{batch_there, differs_by, documents_same, documents_there, list_asks, list_step, more_step, told_named}
-use Rattle.mg_players.proofs.GetReading.{listed_grow}
+use Rattle.mg_players.proofs.GetReading.{held_grows, listed_grow}
 use Rattle.mg_players.proofs.GetSteps.{more_over, more_same, prompt_at, query_at, query_prompt}
+use Rattle.mg_players.proofs.InTurn.{BatchFrom, NextLater, batch_from, came_later, from_hand, from_reply, near, pending_more}
 
 -- ---- one poll
 
@@ -86,15 +89,9 @@ quietly old new log log' wire started c c' r quiet (begins at may sending new_on
 quietly old new log log' wire started c c' r quiet (goes_on sending at asked) = quiet_heard c c' asked.came r quiet asked.hears
 
 -- a batch came: the one in hand, or one that was asked for
-batch_from : (old new : Awaited) (log log' : LogTold) (wire : ℤ) (started : Bool) (c c' : ClientCursor) (reply : List ℕ) → IsSound true c → PollsNext old new log log' wire None started c c' (next.Batch reply) → (c.doing ≡ client.holds reply) ⊎ (c.id ≢ pos 0)
-batch_from old new log log' wire started c c' reply sound (hands_out bytes at none same is answer) = let e : bytes ≡ reply = same_reply answer in inl (at ∙ ap (λ (b : List ℕ). client.holds b) e)
-  where
-    same_reply : next.Batch reply ≡ next.Batch bytes → bytes ≡ reply
-    same_reply is = cc
-batch_from old new log log' wire started c c' reply sound (is_over at has_ended none same is answer) = absurd (let bad : next.Batch reply ≡ next.End = answer in cc)
-batch_from old new log log' wire started c c' reply sound (not_built at may e fails_so none same is answer) = absurd (let bad : next.Batch reply ≡ next.Failed e = answer in cc)
-batch_from old new log log' wire started c c' reply sound (begins at may sending new_one asked) = inr may.held
-batch_from old new log log' wire started c c' reply sound (goes_on sending at asked) = let on : IsAsking true c sending = subst (client.SoundBy true c) at sound in inr on.may.held
+batch_source : (c c' : ClientCursor) (reply : List ℕ) → BatchFrom c c' reply → (c.doing ≡ client.holds reply) ⊎ (c.id ≢ pos 0)
+batch_source c c' reply (from_hand at is) = inl at
+batch_source c c' reply (from_reply none may said says is) = inr may.held
 
 -- ---- the cursor behind it
 
@@ -201,9 +198,9 @@ module _ (g : GetTask) (past : Past) (f : FileRecord) (empty : ℕ) (c : ClientC
 -- ---- all batches of a poll
 
 -- a batch is taken
-taken_so : (chunks : List (List ℕ)) (c : ClientCursor) (missing empty : ℕ) (d d' : ClientDownload) → d' ≡ with_chunks chunks c missing empty d → (m : ℕ) × (k : ℕ) × (d'.doing ≡ reads c m k) × (1 ≤ k → chunks ≡ [])
-taken_so [] c missing empty d d' is = (missing, suc empty, ap (λ (x : ClientDownload). x.doing) is, λ some. refl)
-taken_so (b ∷ bs) c missing empty d d' is = (missing - length (concat (b ∷ bs)), 0, ap (λ (x : ClientDownload). x.doing) is, λ some. absurd (omega (arith, some)))
+taken_so : (chunks : List (List ℕ)) (c : ClientCursor) (missing empty : ℕ) (d d' : ClientDownload) → d' ≡ with_chunks chunks c missing empty d → (m : ℕ) × (k : ℕ) × (d'.doing ≡ reads c m k) × (1 ≤ k → chunks ≡ []) × (k ≡ count_behind empty chunks)
+taken_so [] c missing empty d d' is = (missing, suc empty, ap (λ (x : ClientDownload). x.doing) is, λ some. refl, refl)
+taken_so (b ∷ bs) c missing empty d d' is = (missing - length (concat (b ∷ bs)), 0, ap (λ (x : ClientDownload). x.doing) is, λ some. absurd (omega (arith, some)), refl)
 
 abbrev missing_of : Doing → ℕ
 missing_of (idle c) = 0
@@ -222,12 +219,13 @@ none_received : (f : FileRecord) (n : ℕ) (cs : List (List ℕ)) (ds : List Fie
 none_received f n cs [] is a = refl
 none_received f n cs (d ∷ ds) is a = absurd (subst (λ (l : List (List ℕ)). AreReceived f n l (d ∷ ds)) is a)
 
-module _ (g : GetTask) (P : List ℕ) (L : ℕ) (wire : ℤ) (bytes : List ℕ) (place listed : ℕ) where
+-- The get sent at the places P, and its call, which began with a cursor, at the places N.
+module _ (g : GetTask) (P : List ℕ) (L : ℕ) (wire : ℤ) (bytes : List ℕ) (place listed : ℕ) (N : List ℕ) (begun : ClientCursor) where
   -- what has come of it
   abbrev pub FetchStops : Awaited → List Call → ClientDownload → ClientDownload → Fetched → Type 0
-  FetchStops new calls d d' waits = (c : ClientCursor) × (m : ℕ) × (k : ℕ) × (d'.doing ≡ reads c m k) × IsListed (past_of P L calls wire) g d.file k c
+  FetchStops new calls d d' waits = (c : ClientCursor) × (m : ℕ) × (k : ℕ) × (d'.doing ≡ reads c m k) × IsListed (past_of P L calls wire) g d.file k c × HeardHeld (past_of P L calls wire) g d.file begun × CountsRow new (past_of N L calls wire) begun c k
   FetchStops new calls d d' enough = (c : ClientCursor) × (d'.doing ≡ idle c) × IsListed (past_of P L calls wire) g d.file 0 c
-  FetchStops new calls d d' (fails e) = ReadStops (past_of P L calls wire) (ListsOther calls g.at d.file listed e) e
+  FetchStops new calls d d' (fails e) = ReadStops (past_of P L calls wire) (HeardEmpty (past_of P L calls wire) (past_of N L calls wire) g d.file) (ListsOther calls g.at d.file listed e) e
 
   pub record FetchStopped (log' : LogTold) (new : Awaited) (d d' : ClientDownload) (f : Fetched) : Type 0 where
     pub calls' : List Call
@@ -245,6 +243,9 @@ module _ (g : GetTask) (P : List ℕ) (L : ℕ) (wire : ℤ) (bytes : List ℕ) 
     pub under : IsUnderway old (past_of P (length calls) calls wire) c
     pub lists : IsListed (past_of P L calls wire) g d.file k c
     pub counted : chunk_count_of d.file.length d.file.chunk_size ≡ Ok d.count
+    pub under_call : IsUnderway old (past_of N L calls wire) c
+    pub held : HeardHeld (past_of P L calls wire) g d.file begun
+    pub counts : CountsRow old (past_of N L calls wire) begun c k
 
   module _ (old new : Awaited) (log log' : LogTold) (calls : List Call) (d d' : ClientDownload) (c : ClientCursor) (m k : ℕ) (s : StandsAt old log calls d c m k) where
     -- the log behind a poll, and what is known and was heard there
@@ -255,6 +256,9 @@ module _ (g : GetTask) (P : List ℕ) (L : ℕ) (wire : ℤ) (bytes : List ℕ) 
       came : NextCame new (past_of P L calls' wire) None c behind r
       knows : KnowsRead calls' (reader_in new behind (told_next r s.know.reader))
       lists : IsListed (past_of P L calls' wire) g d.file k c
+      held : HeardHeld (past_of P L calls' wire) g d.file begun
+      counts : CountsRow old (past_of N L calls' wire) begun c k
+      later : NextLater new (past_of N L calls' wire) c behind r (newest 0 counts.replies)
 
     came_grows : (past past' : Past) → Grows past past' → (behind : ClientCursor) (r : NextPoll) → NextCame new past None c behind r → NextCame new past' None c behind r
     came_grows past past' grows behind next.Pending h = underway_grow past past' grows new behind behind.doing h
@@ -272,6 +276,10 @@ module _ (g : GetTask) (P : List ℕ) (L : ℕ) (wire : ℤ) (bytes : List ℕ) 
         let passes : Passes calls x.0 (owner_of_reader (reader_in old c s.know.reader)) (owner_of_reader (reader_in new behind (told_next r s.know.reader)))
         = subst (λ (l : List Call). Passes calls l (owner_of_reader (reader_in old c s.know.reader)) (owner_of_reader (reader_in new behind (told_next r s.know.reader)))) same (n.2.passes s.know.knows) in
         let onward = nobody_onward calls x.0 (owner_of_reader (reader_in old c s.know.reader)) (owner_of_reader (reader_in new behind (told_next r s.know.reader))) passes in
+        let most : ℕ = newest 0 s.counts.replies in
+        let by = near old (past_of N L calls wire) c most s.counts.waits s.sound s.under_call in
+        let y = next_caused old new log log' wire None started c behind r (sound_in_any true c s.sound) polls calls s.told by.places by.under in
+        let as_one : y.0 ≡ x.0 = same_some y.0 x.0 (sym y.1 ∙ x.1) in
         record {
           calls' = x.0;
           told = x.1;
@@ -279,6 +287,9 @@ module _ (g : GetTask) (P : List ℕ) (L : ℕ) (wire : ℤ) (bytes : List ℕ) 
           came = came_grows (past_of P (length calls) x.0 wire) (past_of P L x.0 wire) (since_grows P L (length calls) x.0 wire s.room) behind r x.3;
           knows = subst (λ (l : List Call). KnowsRead l (reader_in new behind (told_next r s.know.reader))) same (n.2.knows s.know.knows);
           lists = listed_grow (past_of P L calls wire) (past_of P L x.0 wire) (log_grows P L calls x.0 wire x.2) onward g d.file k c s.lists;
+          held = held_grows (past_of P L calls wire) (past_of P L x.0 wire) (log_grows P L calls x.0 wire x.2) g d.file begun s.held;
+          counts = counts_grow (past_of N L calls wire) (past_of N L x.0 wire) (log_grows N L calls x.0 wire x.2) old old begun c k (λ m held. refl) s.counts;
+          later = subst (λ (l : List Call). NextLater new (past_of N L l wire) c behind r most) as_one (came_later new N by.places L calls y.0 wire s.room most s.counts.within by.own by.later c behind r y.3);
         }
 
     at_c : (started : Bool) (x behind : ClientCursor) (r : NextPoll) (m' k' : ℕ) → d.doing ≡ reads x m' k' → PollsNext old new log log' wire None started x behind r → PollsNext old new log log' wire None started c behind r
@@ -305,11 +316,17 @@ module _ (g : GetTask) (P : List ℕ) (L : ℕ) (wire : ℤ) (bytes : List ℕ) 
           let b = legal_batch history legal stands in
           batch_differs d.file d.count s.know.chunks s.know.reader.given (batch_documents reply) ([] ++ in_reply behind.doing) left s.know.received batch (documents_there reply b.0 batch b.1 at) e (ap (λ (n : ℕ). all_judged d.file n batch) (sym s.know.taken) ∙ bad))
 
-      stops_so : (e : Error) → (c.doing ≡ client.holds reply) ⊎ (c.id ≢ pos 0) → (e ≡ plain kind.OutOfMemory) ⊎ SpoilsBatch k reply d e → ReadStops (past_of P L p.calls' wire) (ListsOther p.calls' g.at d.file listed e) e
+      many_so : BatchFrom c behind reply → batch_at (fields reply) ≡ Ok no_items → most_empty ≤ suc k → HeardEmpty (past_of P L p.calls' wire) (past_of N L p.calls' wire) g d.file
+      many_so (from_hand at is) none many = let first = (p.lists.held reply at).0 in absurd (omega (arith, many, first))
+      many_so (from_reply none_in may said says is) none many =
+          heard_too_many (past_of P L p.calls' wire) (past_of N L p.calls' wire) g d.file begun behind k reply p.held
+          (took_on old (past_of N L p.calls' wire) begun c behind k reply p.counts (from_reply none_in may said says is) p.later) (none_in_batch reply said says none) p.counts.few many
+
+      stops_so : (e : Error) → BatchFrom c behind reply → (e ≡ plain kind.OutOfMemory) ⊎ SpoilsBatch k reply d e → ReadStops (past_of P L p.calls' wire) (HeardEmpty (past_of P L p.calls' wire) (past_of N L p.calls' wire) g d.file) (ListsOther p.calls' g.at d.file listed e) e
       stops_so e from (inl memory) = stops.no_memory (ap (λ (x : Error). x.kind) memory)
       stops_so e from (inr (steps.no_batch none)) = stops.differs (none_there e none)
       stops_so e from (inr (steps.differs batch at bad)) = stops.differs (one_there e batch at bad)
-      stops_so e from (inr (steps.too_many none many is)) = stops.too_many (never_many g (past_of P L p.calls' wire) d.file k c p.lists reply from many) is
+      stops_so e from (inr (steps.too_many none many is)) = stops.too_many (many_so from none many) (never_many g (past_of P L p.calls' wire) d.file k c p.lists reply (batch_source c behind reply from) many) is
 
     -- what ends the taking
     ends_stopped : (f : Fetched) → EndsFetch old new log log' wire d d' f → FetchStopped log' new d d' f
@@ -338,14 +355,21 @@ module _ (g : GetTask) (P : List ℕ) (L : ℕ) (wire : ℤ) (bytes : List ℕ) 
         record {
           calls' = p.calls';
           told = p.told;
-          after = subst (FetchStops new p.calls' d d') (sym answer)
-              (behind, m', k', ap (λ (y : ClientDownload). y.doing) is, subst (λ (n : ℕ). IsListed (past_of P L p.calls' wire) g d.file n behind) (sym same) (quiet_listed g (past_of P L p.calls' wire) d k c behind (quietly old new log log' wire started c behind next.Pending tt here) p.lists));
+          after = subst (FetchStops new p.calls' d d') (sym answer) (
+            behind,
+            m',
+            k',
+            ap (λ (y : ClientDownload). y.doing) is,
+            subst (λ (n : ℕ). IsListed (past_of P L p.calls' wire) g d.file n behind) (sym same) (quiet_listed g (past_of P L p.calls' wire) d k c behind (quietly old new log log' wire started c behind next.Pending tt here) p.lists),
+            p.held,
+            subst (λ (n : ℕ). CountsRow new (past_of N L p.calls' wire) begun behind n) (sym same) (counts_waiting old new (past_of N L p.calls' wire) begun c behind k p.counts (pending_more old new log log' wire started c behind here) p.later),
+          );
         }
     ends_stopped f (no_more x m' k' there short started behind e polls is answer) =
         let p = polled started behind (next.Failed e) (at_c started x behind (next.Failed e) m' k' there polls) in
         record { calls' = p.calls'; told = p.told; after = subst (FetchStops new p.calls' d d') (sym answer) (why_none p) }
       where
-        why_none : (p : PolledTo behind (next.Failed e)) → ReadStops (past_of P L p.calls' wire) (ListsOther p.calls' g.at d.file listed e) e
+        why_none : (p : PolledTo behind (next.Failed e)) → ReadStops (past_of P L p.calls' wire) (HeardEmpty (past_of P L p.calls' wire) (past_of N L p.calls' wire) g d.file) (ListsOther p.calls' g.at d.file listed e) e
         why_none p = elim p.came [
           | inl cannot ↦ elim cannot [
             | inl memory ↦ stops.no_memory (ap (λ (y : Error). y.kind) memory)
@@ -390,6 +414,11 @@ module _ (g : GetTask) (P : List ℕ) (L : ℕ) (wire : ℤ) (bytes : List ℕ) 
         let longer = keeps_longer calls p.calls' p.keeps in
         let room = s.room in
         let rests = next_rests old new log log' wire one.started c one.behind (next.Batch one.reply) tt polls in
+        let call : Past = past_of N L p.calls' wire in
+        let same = same_empty one.cursor c one.missing m one.empty k (sym one.at ∙ s.doing) in
+        let took = took_on old call begun c one.behind k one.reply p.counts (batch_from old new log log' wire one.started c one.behind one.reply s.sound polls) p.later in
+        let in_row : so.1 ≡ empty_with k (documents_of one.reply)
+        = so.4 ∙ ap (λ (n : ℕ). count_behind n t.chunks) same ∙ count_of d.file d.taken k t.chunks b.documents one.reply t.array t.is_array t.bytes_are b.these b.received in
         record {
           calls1 = p.calls';
           cursor = one.behind;
@@ -421,13 +450,16 @@ module _ (g : GetTask) (P : List ℕ) (L : ℕ) (wire : ℤ) (bytes : List ℕ) 
             lists = subst (λ (f : FileRecord). IsListed past g f so.1 one.behind) (sym gets.file)
                 (listed_behind g past d.file k c p.lists one.reply one.behind so.1 passes (λ some. these ∙ none_received d.file d.taken t.chunks b.documents (so.3 some) b.received));
             counted = subst (λ (f : FileRecord). chunk_count_of f.length f.chunk_size ≡ Ok d1.count) (sym gets.file) (s.counted ∙ ap (λ (n : ℕ). Ok n) (sym gets.count));
+            under_call = underway_rest new call one.behind rests;
+            held = subst (λ (f : FileRecord). HeardHeld past g f begun) (sym gets.file) p.held;
+            counts = counts_behind new call begun one.behind so.1 (empty_with k (documents_of one.reply)) took rests in_row (subst (λ (n : ℕ). n < most_empty) (sym so.4) (few_behind one.empty t.chunks t.few));
           };
         }
 
   fetch_file : (new : Awaited) (calls : List Call) (d d1 d' : ClientDownload) (f : Fetched) → d1.file ≡ d.file → FetchStops new calls d1 d' f → FetchStops new calls d d' f
-  fetch_file new calls d d1 d' waits same h = (h.0, h.1, h.2, h.3, subst (λ (f : FileRecord). IsListed (past_of P L calls wire) g f h.2 h.0) same h.4)
+  fetch_file new calls d d1 d' waits same h = (h.0, h.1, h.2, h.3, subst (λ (f : FileRecord). IsListed (past_of P L calls wire) g f h.2 h.0) same h.4, subst (λ (f : FileRecord). HeardHeld (past_of P L calls wire) g f begun) same h.5, h.6)
   fetch_file new calls d d1 d' enough same h = (h.0, h.1, subst (λ (f : FileRecord). IsListed (past_of P L calls wire) g f 0 h.0) same h.2)
-  fetch_file new calls d d1 d' (fails e) same h = subst (λ (f : FileRecord). ReadStops (past_of P L calls wire) (ListsOther calls g.at f listed e) e) same h
+  fetch_file new calls d d1 d' (fails e) same h = subst (λ (f : FileRecord). ReadStops (past_of P L calls wire) (HeardEmpty (past_of P L calls wire) (past_of N L calls wire) g f) (ListsOther calls g.at f listed e) e) same h
 
   pub fetches_stopped : (n : ℕ) (old new : Awaited) (log log' : LogTold) (calls : List Call) (d d' : ClientDownload) (c : ClientCursor) (m k : ℕ) (f : Fetched) → StandsAt old log calls d c m k → Fetches n old new log log' wire d d' f → FetchStopped log' new d d' f
   unfolding Fetches

@@ -20,7 +20,7 @@ use Rattle.mg_cursor.specs.Polling.{Hears, PollsNext, RunsMore, broke, gave}
 use Rattle.mg_cursor.specs.declared.polls.NextPoll.{NextPoll}
 use Rattle.mg_cursor.specs.declared.polls.NextPoll.TheVariants as next
 use Rattle.mg_gridfs.specs.Downloads as downloads
-use Rattle.mg_gridfs.specs.Downloads.{ClientDownload, Doing, IsSoundDownload}
+use Rattle.mg_gridfs.specs.Downloads.{ClientDownload, IsSoundDownload}
 use Rattle.mg_gridfs.specs.ReadCauses.{cursor_in}
 use Rattle.mg_gridfs.specs.Reads as fetching
 use Rattle.mg_gridfs.specs.Reads.{Concludes, EndsFetch, Fetched, Fetches, Fills, HandsOut, Reads, TakesOne}

@@ -93,12 +93,12 @@ module _ (past past' : Past) (grows : Grows past past') where
     pub lists_grow : (g : GetTask) (d : ClientDownload) → ListsIts past g d → ListsIts past' g d
     lists_grow g d l c is = listed_grow g d.file (empties d.doing) c (l c is)
 
-    pub stops_grow : (differ differ' : Type 0) → (differ → differ') → (e : Error) → ReadStops past differ e → ReadStops past' differ' e
-    stops_grow differ differ' leads e (no_memory room) = no_memory room
-    stops_grow differ differ' leads e (not_built at told cannot) = not_built at (told_grow at told) cannot
-    stops_grow differ differ' leads e (no_batch at told fails) = no_batch at (told_grow at told) (fails_grow past past' grows at e fails)
-    stops_grow differ differ' leads e (too_many never is) = too_many (where_prompt_grow past past' ⊥ grows onward never) is
-    stops_grow differ differ' leads e (differs other) = differs (leads other)
+    pub stops_grow : {many many' : Type 0} (differ differ' : Type 0) → (many → many') → (differ → differ') → (e : Error) → ReadStops past many differ e → ReadStops past' many' differ' e
+    stops_grow differ differ' so leads e (no_memory room) = no_memory room
+    stops_grow differ differ' so leads e (not_built at told cannot) = not_built at (told_grow at told) cannot
+    stops_grow differ differ' so leads e (no_batch at told fails) = no_batch at (told_grow at told) (fails_grow past past' grows at e fails)
+    stops_grow differ differ' so leads e (too_many empty never is) = too_many (so empty) (where_prompt_grow past past' ⊥ grows onward never) is
+    stops_grow differ differ' so leads e (differs other) = differs (leads other)
 
 -- what was sent at some places was sent at those and more
 pub grows_among : (xs ys : List ℕ) (since : ℕ) (calls : List Call) (wire : ℤ) → ((place : ℕ) → IsOf xs place → IsOf ys place) → Grows (past_of xs since calls wire) (past_of ys since calls wire)

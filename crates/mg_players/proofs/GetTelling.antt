@@ -24,6 +24,7 @@ use Rattle.mg_players.specs.declared.get.GetStage.TheVariants as gets
 use Rattle.mg_players.proofs.Commands.{falls_later}
 use Rattle.mg_players.proofs.GetAdding.{asks_later}
 use Rattle.mg_players.proofs.GetNewest.{download_kept, finding_kept}
+use Rattle.mg_players.proofs.GetCounting.{counts_in_grow, heard_empty_grows}
 use Rattle.mg_players.proofs.GetReading.{held_grows, lists_grow, other_grows, stops_grow}
 use Rattle.mg_players.proofs.Telling.{grows_later}
 
@@ -55,7 +56,9 @@ module _ (calls calls' : List Call) (wire : ℤ) (keeps : Keeps calls calls') (o
   fails_later done e (tells.not_read some more d at opened cursor fails its sound plain counted listed of held why) =
       tells.not_read some more d at (opened_later d.file at opened) cursor (read_fails_grow (sent_at q.now calls wire) (sent_at q.now calls' wire) (later q.now) d cursor e fails) its sound plain counted listed of
       (held_grows (sent_at (all_places q) calls wire) (sent_at (all_places q) calls' wire) (later (all_places q)) g d.file cursor held)
-      (stops_grow (sent_at (all_places q) calls wire) (sent_at (all_places q) calls' wire) (later (all_places q)) onward (ListsOther calls g.at d.file listed e) (ListsOther calls' g.at d.file listed e) (other_grows calls calls' g.at d.file listed e onward) e why)
+      (stops_grow (sent_at (all_places q) calls wire) (sent_at (all_places q) calls' wire) (later (all_places q)) onward
+      (ListsOther calls g.at d.file listed e) (ListsOther calls' g.at d.file listed e)
+      (heard_empty_grows (sent_at q.now calls wire) (sent_at q.now calls' wire) (later q.now) (sent_at (all_places q) calls wire) (sent_at (all_places q) calls' wire) (later (all_places q)) g d.file) (other_grows calls calls' g.at d.file listed e onward) e why)
 
   end_later : (end : Ended (Unit {0})) (done : ℕ) (at : Option ℕ) → TellsGetEnd calls wire q g done at end → TellsGetEnd calls' wire q g done at end
   end_later ended.Unfinished done at t = tt
@@ -81,5 +84,6 @@ get_tells_later old new calls calls' wire q g (gets.Reads download room) done at
   t.4,
   lists_grow (sent_at (all_places q) calls wire) (sent_at (all_places q) calls' wire) (grows_later (all_places q) calls calls' wire keeps) onward g (download_of download) t.5,
   download_kept calls calls' keeps (λ (n : ℕ). IsOf (all_places q) n) (λ (n : ℕ). IsOf (all_places q) n) (λ place of. of) (λ place of. of) old new (download_of download) same t.6,
+  counts_in_grow (sent_at q.now calls wire) (sent_at q.now calls' wire) (grows_later q.now calls calls' wire keeps) (sent_at (all_places q) calls wire) (sent_at (all_places q) calls' wire) (grows_later (all_places q) calls calls' wire keeps) g (download_of download).file old new (download_of download).doing same t.7,
 )
 get_tells_later old new calls calls' wire q g (gets.Ended end) done at keeps onward same t = end_later calls calls' wire keeps onward q g end done at t

@@ -46,7 +46,7 @@ use Rattle.mg_players.specs.Asking.{AllAskOn, DownloadLast, FindingLast}
 use Rattle.mg_players.specs.Causes.{FallsAt, sent_at, sent_since}
 use Rattle.mg_players.specs.Gets.{AsksForMore, AsksPlainly, GetKnowsAt, GetTask, IsFindAt, IsGetCommand, IsOpeningFor, KeepsRead, OpensAs, done_behind, get_bucket, get_owner, room_of, sought}
 use Rattle.mg_players.specs.Plays.{Moves, MovesTo, Places, all_places, by_finding, no_move}
-use Rattle.mg_players.specs.Reading.{HeardHeld, ListsIts, ListsOther}
+use Rattle.mg_players.specs.Reading.{CountsIn, HeardHeld, ListsIts, ListsOther}
 use Rattle.mg_players.specs.Telling as tells
 use Rattle.mg_players.specs.Telling.{FindsSoFar, GetTell, GetTells, GetTurns, TellsGetFails, TellsGetOpened, TellsNoCall, finding_places}
 use Rattle.mg_players.specs.declared.get.GetPlayer.{GetPlayer}
@@ -57,6 +57,7 @@ use Rattle.mg_players.proofs.Commands.{falls_later, falls_none}
 use Rattle.mg_players.proofs.GetCausing.{heard_same}
 use Rattle.mg_players.proofs.GetAdding.{adds_more, all_below, asks_answered, asks_going, now_below}
 use Rattle.mg_players.proofs.GetAsking.{FindsBy, opening_adds, opening_finds}
+use Rattle.mg_players.proofs.GetCounting.{counts_in_grow, heard_empty_grows}
 use Rattle.mg_players.proofs.GetMores.{MoresBehind, read_last}
 use Rattle.mg_players.proofs.GetNewest.{download_kept, opens_last}
 use Rattle.mg_players.proofs.GetSending.{IsGiving, IsNewDownload, ReadsOn, found_same, has_none, listed_same, lists_some, new_giving, new_plain, opened_new, read_gives, read_on}
@@ -89,6 +90,13 @@ listed_by awaited calls d g bytes place listed call downloads.spoiled there give
 
 listed_within : (awaited : Awaited) (calls : List Call) (g : GetTask) (d : ClientDownload) (bytes : List ℕ) (listed : ℕ) → IsGiving d.doing → KnowsDownload awaited calls g.at g.id d bytes listed → listed < length calls
 listed_within awaited calls g d bytes listed gives k = let f = k.of_record.front in listed_by awaited calls d g bytes f.place listed f.call d.doing f.found gives k.by
+
+-- between its calls it counts no empty batches
+giving_counts : (awaited : Awaited) (past call : Past) (g : GetTask) (f : FileRecord) (doing : Doing) → IsGiving doing → CountsIn awaited past call g f doing
+giving_counts awaited past call g f (downloads.idle cursor) gives = tt
+giving_counts awaited past call g f (downloads.reads cursor missing empty) gives = absurd gives
+giving_counts awaited past call g f downloads.ended gives = tt
+giving_counts awaited past call g f downloads.spoiled gives = tt
 
 -- a call that is waited for has the ticket that is held
 record Waited (awaited : Awaited) (ticket : Option ℕ) (place : ℕ) : Type 0 where
@@ -318,6 +326,7 @@ module _ (old new : Awaited) (log log' : LogTold) (wire : ℤ) (job : GetPlayer)
             new_plain d new_one,
             lists_grow (past_of q.now (length calls) calls' wire) (sent_at (all_places q') calls' wire) (opened_grows_to calls calls' q) (onward_refl calls' nobody) g d lists,
             opened_last calls' (sent_since q.now (length calls) (length calls')) last,
+            giving_counts new (sent_at (all_places q') calls' wire) (sent_at q'.now calls' wire) g d.file d.doing (new_giving d new_one),
           );
           extends = extends_opened q job.done done (length calls) (length calls') first t.0.0 t.0.1 room;
           adds = adds;
@@ -405,10 +414,12 @@ fails_unsent awaited log wire job e first why = record {
 -- ---- a read
 
 -- how it stands, or why it failed, in a later log
-leaves_grow : (past past' : Past) → Grows past past' → Onward past.calls past'.calls nobody → (calls : List Call) (g : GetTask) (f : FileRecord) (listed : ℕ) (d : ClientDownload) (r : ReadPoll) → ReadLeaves past calls g f listed d r → ReadLeaves past' calls g f listed d r
-leaves_grow past past' grows onward calls g f listed d read.Pending l = lists_grow past past' grows onward g d l
-leaves_grow past past' grows onward calls g f listed d (read.Read n) l = lists_grow past past' grows onward g d l
-leaves_grow past past' grows onward calls g f listed d (read.Failed e) l = stops_grow past past' grows onward (ListsOther calls g.at f listed e) (ListsOther calls g.at f listed e) (λ s. s) e l
+module _ (awaited : Awaited) (past past' call call' : Past) (grows : Grows past past') (grows_call : Grows call call') (onward : Onward past.calls past'.calls nobody) (calls : List Call) (g : GetTask) (f : FileRecord) (listed : ℕ) (d : ClientDownload) where
+  leaves_grow : (r : ReadPoll) → ReadLeaves awaited past call calls g f listed d r → ReadLeaves awaited past' call' calls g f listed d r
+  leaves_grow read.Pending l = (lists_grow past past' grows onward g d l.0, counts_in_grow call call' grows_call past past' grows g d.file awaited awaited d.doing (λ m e. refl) l.1)
+  leaves_grow (read.Read n) l = lists_grow past past' grows onward g d l
+  leaves_grow (read.Failed e) l =
+      stops_grow past past' grows onward (ListsOther calls g.at f listed e) (ListsOther calls g.at f listed e) (heard_empty_grows call call' grows_call past past' grows g f) (λ s. s) e l
 
 module _ (old new : Awaited) (log log' : LogTold) (wire : ℤ) (job : GetPlayer) (download : GridFsDownloadStream) (hand : Vec ℕ Global) (sound : IsDownload download) (some : 0 < job.what.read) (d' : ClientDownload) (r : ReadPoll) (given : List ℕ)
     (reads_so : Reads old new log log' wire (length hand.items) (download_of download) d' given r) (caused : ReadCaused old new log log' wire (download_of download) d' r) where
@@ -457,14 +468,19 @@ module _ (old new : Awaited) (log log' : LogTold) (wire : ℤ) (job : GetPlayer)
 
   -- how its cursor stands behind it, or why it failed
   left_by : (calls calls' : List Call) → log ≡ Some calls → log' ≡ Some calls' → (q q' : Places) (at : Option ℕ) (k : GetKnowsAt old calls task (gets.Reads download hand) job.bytes.items at) → Told calls q at → all_places q' ≡ sent_since (all_places q) (length calls) (length calls')
-      → ReadLeaves (sent_at (all_places q') calls' wire) calls' task before.file k.0 d' r
+      → ReadLeaves new (sent_at (all_places q') calls' wire) (sent_at (sent_since q.now (length calls) (length calls')) calls' wire) calls' task before.file k.0 d' r
   left_by calls calls' told told' q q' at k t whole =
       let all : List ℕ = all_places q in
       let under = fetching_grows (sent_at q.now calls wire) (sent_at all calls wire) (grows_among q.now all (length calls) calls wire (λ place of. in_second q.opened (concat q.owns ++ q.now) place (in_second (concat q.owns) q.now place of))) old old before (λ m e. refl) t.2 in
-      let x = read_leaves old new log log' wire task before d' given r sound.between.sound calls told all job.bytes.items k.0 k.1 under t.5 (length hand.items) reads_so in
-      let here : ReadLeaves (past_of all (length calls) calls' wire) calls' task before.file k.0 d' r = subst (λ (c : List Call). ReadLeaves (past_of all (length calls) c wire) c task before.file k.0 d' r) (same_told log' x.calls' calls' x.told' told') x.leaves in
-      subst (λ (l : List ℕ). ReadLeaves (sent_at l calls' wire) calls' task before.file k.0 d' r) (sym whole)
-      (leaves_grow (past_of all (length calls) calls' wire) (sent_at (sent_since all (length calls) (length calls')) calls' wire) (grows_ended all (length calls) calls' wire) (onward_refl calls' nobody) calls' task before.file k.0 d' r here)
+      let found = t.0.heard.heard in
+      let within = get_within calls found.place found.heard.call found.heard.there in
+      let some_calls : 0 < length calls = omega (arith, within) in
+      let x = read_leaves old new log log' wire task before d' given r sound.between.sound calls told all q.now job.bytes.items k.0 k.1 under t.5 t.2 t.7 some_calls (length hand.items) reads_so in
+      let here : ReadLeaves new (past_of all (length calls) calls' wire) (past_of q.now (length calls) calls' wire) calls' task before.file k.0 d' r
+      = subst (λ (c : List Call). ReadLeaves new (past_of all (length calls) c wire) (past_of q.now (length calls) c wire) c task before.file k.0 d' r) (same_told log' x.calls' calls' x.told' told') x.leaves in
+      let now : Past = sent_at (sent_since q.now (length calls) (length calls')) calls' wire in
+      subst (λ (l : List ℕ). ReadLeaves new (sent_at l calls' wire) now calls' task before.file k.0 d' r) (sym whole)
+      (leaves_grow new (past_of all (length calls) calls' wire) (sent_at (sent_since all (length calls) (length calls')) calls' wire) (past_of q.now (length calls) calls' wire) now (grows_ended all (length calls) calls' wire) (grows_ended q.now (length calls) calls' wire) (onward_refl calls' nobody) calls' task before.file k.0 d' r here)
 
   -- what its opening heard is told so by a later log, where more chunks were asked for
   still_opened : (calls calls' : List Call) (q q' : Places) (f f' : FileRecord) (at : Option ℕ) → Keeps calls calls' → q'.opened ≡ q.opened → f' ≡ f → (AllAskOn calls (all_places q) (concat q.owns ++ q.now) → AllAskOn calls' (all_places q') (concat q'.owns ++ q'.now)) → TellsGetOpened calls wire q task f at → TellsGetOpened calls' wire q' task f' at
@@ -496,6 +512,7 @@ read_waits old new log log' wire job download hand sound some download' hand' gi
           let on = on_it old new log log' wire job download hand sound some d' read.Pending given reads_so caused t.4 in
           let q' : Places = going_on q (length calls) (length calls') in
           let past : Past = past_of q.now (length calls) calls' wire in
+          let left = left_by old new log log' wire job download hand sound some d' read.Pending given reads_so caused calls calls' told told' q q' at k t (extends_going q job.done job.done (length calls) (length calls') refl c.room).whole in
           record {
             longer = c.room;
             places = q';
@@ -505,8 +522,9 @@ read_waits old new log log' wire job download hand sound some download' hand' gi
               fetching_grows past (sent_at q'.now calls' wire) (grows_ended q.now (length calls) calls' wire) new new d' (λ m e. refl) c.came,
               sound',
               on.plain,
-              left_by old new log log' wire job download hand sound some d' read.Pending given reads_so caused calls calls' told told' q q' at k t (extends_going q job.done job.done (length calls) (length calls') refl c.room).whole,
+              left.0,
               subst (λ (l : List ℕ). DownloadLast new calls' (λ (n : ℕ). IsOf l n) d') (sym (whole_going q (length calls) (length calls'))) c.behind.last,
+              left.1,
             );
             extends = extends_going q job.done job.done (length calls) (length calls') refl c.room;
             adds = c.adds;
@@ -622,6 +640,7 @@ module _ (old new : Awaited) (log log' : LogTold) (wire : ℤ) (job after : GetP
           on.plain,
           left_by old new log log' wire job download hand sound some (download_of download') (read.Read count) given reads_so caused calls calls' told told' q q' at k t (extends_answered q job.done after.done (length calls) (length calls') (sym counted) c.room).whole,
           subst (λ (l : List ℕ). DownloadLast new calls' (λ (n : ℕ). IsOf l n) (download_of download')) (sym (whole_answered q (length calls) (length calls'))) c.behind.last,
+          giving_counts new (sent_at (all_places q') calls' wire) (sent_at q'.now calls' wire) aim (download_of download').file (download_of download').doing (gives_so keeps.0),
         );
         extends = extends_answered q job.done after.done (length calls) (length calls') (sym counted) c.room;
         adds = c.adds;

@@ -19,9 +19,11 @@ pub mod GetDiffering
 pub mod GetBlamed
 pub mod GetBroken
 pub mod GetListing
+pub mod GetCounting
 pub mod GetFetching
 pub mod GetStopping
 pub mod GetListed
+pub mod OpenedCursors
 pub mod Queried
 pub mod GetRooms
 pub mod Vainly
@@ -42,6 +44,7 @@ pub mod PutTelling
 pub mod PutBuckets
 pub mod PutOpening
 pub mod PutDriving
+pub mod InTurn
 pub mod PutListing
 pub mod PutCreated
 pub mod PutChecked
@@ -54,8 +57,15 @@ pub mod PutSending
 pub mod PutSupplied
 pub mod PutChunks
 pub mod PutCommands
+pub mod PutChecks
+pub mod PutNext
 pub mod PutOrder
 pub mod PutOrdered
+pub mod PutWhich
+pub mod Laying
+pub mod PutLaying
+pub mod PutLaid
+pub mod PutSaying
 pub mod PutChecking
 pub mod Creating
 pub mod Prompting

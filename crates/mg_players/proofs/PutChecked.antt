@@ -1,18 +1,17 @@
 -- What a step of a put's index check is caused by, and what it knows of the list that it reads.
-use Rattle.std.proofs.Common.{◌≡◌, ◌≢◌, ◌≤◌, ℕ, suc, ℤ, Bool, true, false, List, [], length, Some, None, refl, sym, ap, ◌∙◌, subst, inl, inr, arith}
+use Rattle.std.proofs.Common.{◌≡◌, ◌≢◌, ◌⊎◌, ◌≤◌, ℕ, suc, ℤ, Bool, true, false, List, [], length, Some, None, refl, sym, ap, ◌∙◌, subst, inl, inr, arith}
 use Rattle.mg_bson.specs.Raw.{fields}
-use Rattle.mg_link.specs.Calls.{Came, Flies, Past, RequestFails, past_of, was_broken}
+use Rattle.mg_link.specs.Calls.{Came, Flies, Grows, Past, RequestFails, past_of, was_broken}
 use Rattle.mg_link.specs.Errors.{command_code}
 use Rattle.mg_link.specs.Exec.{Runs, Sending}
 use Rattle.mg_link.specs.Link.{Awaited, LogTold}
 use Rattle.mg_link.specs.Log.{Call, reply}
-use Rattle.mg_link.specs.Namespace.{space}
 use Rattle.mg_link.specs.declared.action.Step.{Step}
 use Rattle.mg_link.specs.declared.action.Step.TheVariants as came
 use Rattle.mg_link.specs.declared.error.Error.{Error}
-use Rattle.mg_link.proofs.Calls.{RequestRan, request_ran, success_ran}
+use Rattle.mg_link.proofs.Calls.{RequestRan, log_grows, request_ran, success_ran}
 use Rattle.mg_link.proofs.Filed.{Grew}
-use Rattle.mg_link.proofs.Pasts.{fails_anyhow, heard_by, last_reply}
+use Rattle.mg_link.proofs.Pasts.{fails_anyhow, heard_by, heard_reply, last_reply}
 use Rattle.mg_link.proofs.Places.{get_within}
 use Rattle.mg_options.specs.Fields.{Line, fields_in}
 use Rattle.mg_ops.specs.Cursors.{OpensWith}
@@ -33,9 +32,9 @@ use Rattle.mg_gridfs.specs.Commands.{CannotSend, IsNewRequest, IsRequest, any_li
 use Rattle.mg_gridfs.specs.declared.indexes.Place.{Place}
 use Rattle.mg_gridfs.specs.declared.indexes.Place.TheVariants as place
 use Rattle.mg_players.specs.PutFailures as fails
-use Rattle.mg_players.specs.PutFailures.{CheckReads, HeardCreation, IsListed, PutCheckFails, ReadsList, first_batch, held_in}
-use Rattle.mg_players.proofs.PutCreated.{CameBehind, created_by, first_asked, listing_ran, there_by}
-use Rattle.mg_players.proofs.PutListing.{SoughtBy, seeks_list}
+use Rattle.mg_players.specs.PutFailures.{CheckReads, ComesNext, HeardCreation, HeardIndex, HeardList, HeardNone, IsListed, PutCheckFails, ReadsList, held_in}
+use Rattle.mg_players.proofs.PutCreated.{CameBehind, created_by, creation_grows, first_asked, listing_ran, there_by}
+use Rattle.mg_players.proofs.PutListing.{SoughtBy, none_few, seeks_list}
 
 -- behind a step
 abbrev pub TurnReads : Awaited → Past → ClientBucket → CheckTurned → Type 0
@@ -60,6 +59,32 @@ error_in d (came.Pending s) = d
 error_in d (came.Done bytes) = d
 error_in d (came.Failed e) = e
 
+-- ---- what was heard, and comes next
+
+pub list_on : (past past' : Past) → Grows past past' → (b : ClientBucket) (at : Place) → HeardList past b at → HeardList past' b at
+list_on past past' grows b at h = (h.0, heard_reply past past' grows (fields_in (listing_lines b at)) h.0 h.1)
+
+index_on : (past past' : Past) → Grows past past' → (b : ClientBucket) (at : Place) → HeardIndex past b at → HeardIndex past' b at
+index_on past past' grows b at h = (h.0, heard_reply past past' grows (fields_in (index_lines b at)) h.0 h.1)
+
+-- it comes next still
+pub next_on : (past past' : Past) → Grows past past' → (b : ClientBucket) (lines : List Line) → ComesNext past b lines → ComesNext past' b lines
+next_on past past' grows b lines (fails.the_find is) = fails.the_find is
+next_on past past' grows b lines (fails.the_files none is) = fails.the_files (record { bytes = none.bytes; heard = heard_reply past past' grows (fields_in (any_lines b)) none.bytes none.heard; said = none.said; says = none.says; none = none.none }) is
+next_on past past' grows b lines (fails.a_list at created is) = fails.a_list at (creation_grows past past' grows b at created) is
+next_on past past' grows b lines (fails.an_index at listed is) = fails.an_index at (list_on past past' grows b at listed) is
+next_on past past' grows b lines (fails.the_chunks heard is) = fails.the_chunks (elim heard [ inl listed ↦ inl (list_on past past' grows b place.Files listed) | inr created ↦ inr (index_on past past' grows b place.Files created) ]) is
+
+-- it is of the check
+pub next_of_check : (past : Past) (b : ClientBucket) (lines : List Line) → ComesNext past b lines → IsOfCheck b lines
+next_of_check past b lines (fails.the_find is) = causes.a_find is
+next_of_check past b lines (fails.the_files none is) = causes.a_creation place.Files is
+next_of_check past b lines (fails.a_list at created is) = causes.a_listing at is
+next_of_check past b lines (fails.an_index at listed is) = causes.an_index at is
+next_of_check past b lines (fails.the_chunks heard is) = causes.a_creation place.Chunks is
+
+-- ---- a step's parts
+
 module _ (awaited : Awaited) (past : Past) (b : ClientBucket) where
   -- want of memory, or a cause
   caused_by : (Cause : Error → Type 0) (e : Error) → ((x : Error) → Cause x → PutCheckFails past b x) → FailsBy Cause e → PutCheckFails past b e
@@ -69,22 +94,22 @@ module _ (awaited : Awaited) (past : Past) (b : ClientBucket) where
   as_turned : (t u : CheckTurned) → t ≡ u → TurnReads awaited past b u → TurnReads awaited past b t
   as_turned t u is h = subst (TurnReads awaited past b) (sym is) h
 
-  builds_so : (again : Bool) (lines : List Line) (next_one : Sending → ClientCheck) (t : CheckTurned) → IsOfCheck b lines → ((s : Sending) → IsNewRequest again lines s → CheckReads awaited past b (next_one s)) → Builds again lines next_one t → TurnReads awaited past b t
-  builds_so again lines next_one t own reads_so (check.built s request is) = as_turned t (check.goes (next_one s)) is (reads_so s request)
-  builds_so again lines next_one t own reads_so (check.not_built e failed is) = as_turned t (check.fails e) is (caused_by (CannotSend lines) e (λ x cannot. fails.not_built lines own cannot) failed)
+  builds_so : (again : Bool) (lines : List Line) (next_one : Sending → ClientCheck) (t : CheckTurned) → ComesNext past b lines → ((s : Sending) → IsNewRequest again lines s → CheckReads awaited past b (next_one s)) → Builds again lines next_one t → TurnReads awaited past b t
+  builds_so again lines next_one t its reads_so (check.built s request is) = as_turned t (check.goes (next_one s)) is (reads_so s request)
+  builds_so again lines next_one t its reads_so (check.not_built e failed is) = as_turned t (check.fails e) is (caused_by (CannotSend lines) e (λ x cannot. fails.not_built lines its cannot) failed)
 
-  creation_so : (at : Place) (t : CheckTurned) → Builds false (creation_lines b at) (creates at) t → TurnReads awaited past b t
-  creation_so at t builds = builds_so false (creation_lines b at) (creates at) t (causes.a_creation at refl) (λ s request. tt) builds
+  files_so : (t : CheckTurned) → HeardNone past b → Builds false (creation_lines b place.Files) (creates place.Files) t → TurnReads awaited past b t
+  files_so t none builds = builds_so false (creation_lines b place.Files) (creates place.Files) t (fails.the_files none refl) (λ s request. tt) builds
 
   listing_so : (at : Place) (t : CheckTurned) → HeardCreation past b at → Builds true (listing_lines b at) (lists at) t → TurnReads awaited past b t
-  listing_so at t created builds = builds_so true (listing_lines b at) (lists at) t (causes.a_listing at refl) (λ s request. first_asked past b at awaited s request.new created) builds
+  listing_so at t created builds = builds_so true (listing_lines b at) (lists at) t (fails.a_list at created refl) (λ s request. first_asked past b at awaited s request.new created) builds
 
-  indexing_so : (at : Place) (t : CheckTurned) → Builds false (index_lines b at) (indexes at) t → TurnReads awaited past b t
-  indexing_so at t builds = builds_so false (index_lines b at) (indexes at) t (causes.an_index at refl) (λ s request. tt) builds
+  indexing_so : (at : Place) (t : CheckTurned) → HeardList past b at → Builds false (index_lines b at) (indexes at) t → TurnReads awaited past b t
+  indexing_so at t listed builds = builds_so false (index_lines b at) (indexes at) t (fails.an_index at listed refl) (λ s request. tt) builds
 
-  behind_so : (at : Place) (t : CheckTurned) → GoesBehind b at t → TurnReads awaited past b t
-  behind_so place.Files t h = creation_so place.Chunks t h
-  behind_so place.Chunks t h = as_turned t check.passes h tt
+  behind_so : (at : Place) (t : CheckTurned) → HeardList past b at ⊎ HeardIndex past b at → GoesBehind b at t → TurnReads awaited past b t
+  behind_so place.Files t heard h = builds_so false (creation_lines b place.Chunks) (creates place.Chunks) t (fails.the_chunks heard refl) (λ s request. tt) h
+  behind_so place.Chunks t heard h = as_turned t check.passes h tt
 
   -- ---- requests
 
@@ -92,7 +117,8 @@ module _ (awaited : Awaited) (past : Past) (b : ClientBucket) where
     find_so : (c : Step Sending (List ℕ)) (t : CheckTurned) → Runs old new log log' wire s c → HearsFind b c t → Came new past (fields_in (any_lines b)) true c → TurnReads awaited past b t
     find_so (came.Pending s') t runs h flies = as_turned t (check.pends (finds s')) h tt
     find_so (came.Done bytes) t runs (check.some said says more is) heard = as_turned t check.passes is tt
-    find_so (came.Done bytes) t runs (check.none said says nothing builds) heard = creation_so place.Files t builds
+    find_so (came.Done bytes) t runs (check.none said says nothing builds) heard =
+        files_so t (record { bytes = bytes; heard = heard_by past (fields_in (any_lines b)) true (reply bytes) heard; said = said; says = says; none = nothing }) builds
     find_so (came.Done bytes) t runs (check.broke e failed is) heard =
         as_turned t (check.fails e) is (caused_by (TellsNoCursor bytes) e (λ x breaks. fails.by_find (was_broken bytes heard (success_ran old new log log' wire s bytes runs) breaks)) failed)
     find_so (came.Failed e) t runs h failed = as_turned t (check.fails e) h (fails.by_find (fails_anyhow past (fields_in (any_lines b)) true TellsNoCursor e failed))
@@ -129,14 +155,10 @@ module _ (awaited : Awaited) (past : Past) (b : ClientBucket) where
         let whole = ap held_in opens.opens.whole in
         record {
           of_list = record { at = at; place = here.place; first = bytes; heard = here.heard; success = success; out = out; opens = opens; replies = []; behind = refl };
-          hand = λ held is.
-              let same : out.initial_reply ≡ held = cc in (
-                subst (λ (bs : List ℕ). fails.StandsBehind past b (new_client out) bs) (sym opens.opens.whole ∙ same)
-                    (record { batch = first_batch at here success; said = record { id = out.info.id; space = space out.info.ns; token = out.post_batch_resume_token; batch = opens.opens.batch }; says = opens.opens.says; id_is = refl }),
-                refl,
-              );
+          hand = λ held is. let same : out.initial_reply ≡ held = cc in (sym opens.opens.whole ∙ same, refl);
           left = inl refl;
-          empties = inl refl;
+          empties = refl;
+          few = none_few;
           counted = omega (arith, whole);
           within = get_within past.calls here.place here.heard.call here.heard.there;
           waits = λ sending ticket place is held at_place. absurd cc;
@@ -146,7 +168,8 @@ module _ (awaited : Awaited) (past : Past) (b : ClientBucket) where
     lists_so at (came.Pending s') t runs h asks_so = as_turned t (check.pends (lists at s')) h asks_so
     lists_so at (came.Done bytes) t runs (check.opened out opens is) heard =
         let x = heard.1 in
-        as_turned t (check.goes (reads at (new_documents (new_client out)) false 0)) is (opened_so at bytes out runs opens (last_reply x.later past x.grows (fields_in (listing_lines b at)) true bytes x.says))
+        let last = last_reply x.later past x.grows (fields_in (listing_lines b at)) true bytes x.says in
+        as_turned t (check.goes (reads at (new_documents (new_client out)) false 0)) is ((bytes, heard_by past (fields_in (listing_lines b at)) true (reply bytes) last), opened_so at bytes out runs opens last)
     lists_so at (came.Done bytes) t runs (check.broke e failed is) heard =
         let x = heard.1 in
         as_turned t (check.fails e) is
@@ -157,27 +180,28 @@ module _ (awaited : Awaited) (past : Past) (b : ClientBucket) where
 
     indexes_so : (at : Place) (c : Step Sending (List ℕ)) (t : CheckTurned) → Runs old new log log' wire s c → HearsIndex b at c t → Came new past (fields_in (index_lines b at)) false c → TurnReads awaited past b t
     indexes_so at (came.Pending s') t runs h flies = as_turned t (check.pends (indexes at s')) h tt
-    indexes_so at (came.Done bytes) t runs (check.done none goes) heard = behind_so at t goes
+    indexes_so at (came.Done bytes) t runs (check.done none goes) heard = behind_so at t (inr (bytes, heard_by past (fields_in (index_lines b at)) false (reply bytes) heard)) goes
     indexes_so at (came.Done bytes) t runs (check.unread e failed is) heard =
         as_turned t (check.fails e) is (caused_by (WriteFails (fields bytes)) e (λ x cause. fails.by_index at (was_broken bytes heard (success_ran old new log log' wire s bytes runs) cause)) failed)
     indexes_so at (came.Failed e) t runs h failed = as_turned t (check.fails e) h (fails.by_index at (fails_anyhow past (fields_in (index_lines b at)) false ListsFailure e failed))
 
   -- ---- the list
 
-  looks_so : (at : Place) (d : DocumentCursor) (document : List ℕ) (found : Bool) (count : ℕ) (t : CheckTurned) → ReadsList awaited past b d (suc count) → IsListed past b document → Looks at d document found count t → TurnReads awaited past b t
-  looks_so at d document found count t l listed (check.looked i few read is) = as_turned t (check.goes _) is l
-  looks_so at d document found count t l listed (check.too_many many is) = as_turned t (check.fails _) is (let sum = l.counted in fails.too_many d.cursor l.of_list (omega (arith, many, sum)) refl)
-  looks_so at d document found count t l listed (check.broke e failed is) = as_turned t (check.fails e) is (fails.no_index document listed failed)
+  module _ (at : Place) (whole : HeardList past b at) where
+    looks_so : (d : DocumentCursor) (document : List ℕ) (found : Bool) (count : ℕ) (t : CheckTurned) → ReadsList awaited past b d (suc count) → IsListed past b document → Looks at d document found count t → TurnReads awaited past b t
+    looks_so d document found count t l listed (check.looked i few read is) = as_turned t (check.goes _) is (whole, l)
+    looks_so d document found count t l listed (check.too_many many is) = as_turned t (check.fails _) is (let sum = l.counted in fails.too_many d.cursor l.of_list (omega (arith, many, sum)) refl)
+    looks_so d document found count t l listed (check.broke e failed is) = as_turned t (check.fails e) is (fails.no_index document listed failed)
 
-  ends_so : (at : Place) (found : Bool) (t : CheckTurned) → EndsList b at found t → TurnReads awaited past b t
-  ends_so at true t h = behind_so at t h
-  ends_so at false t h = indexing_so at t h
+    ends_so : (found : Bool) (t : CheckTurned) → EndsList b at found t → TurnReads awaited past b t
+    ends_so true t h = behind_so at t (inl whole) h
+    ends_so false t h = indexing_so at t whole h
 
-  advance_so : (at : Place) (left : DocumentCursor) (found : Bool) (count : ℕ) (poll : AdvancePoll) (t : CheckTurned) → SoughtBy awaited b poll past left count → HearsAdvance b at left found count poll t → TurnReads awaited past b t
-  advance_so at left found count advance.Pending t sought h = as_turned t (check.pends (reads at left found count)) h sought
-  advance_so at left found count (advance.Ready true) t sought h = looks_so at left h.0 found count t sought.0 (sought.1 h.0 h.1) h.2
-  advance_so at left found count (advance.Ready false) t sought h = ends_so at found t h
-  advance_so at left found count (advance.Failed e) t sought h = as_turned t (check.fails e) h sought
+    advance_so : (left : DocumentCursor) (found : Bool) (count : ℕ) (poll : AdvancePoll) (t : CheckTurned) → SoughtBy awaited b poll past left count → HearsAdvance b at left found count poll t → TurnReads awaited past b t
+    advance_so left found count advance.Pending t sought h = as_turned t (check.pends (reads at left found count)) h (whole, sought)
+    advance_so left found count (advance.Ready true) t sought h = looks_so left h.0 found count t sought.0 (sought.1 h.0 h.1) h.2
+    advance_so left found count (advance.Ready false) t sought h = ends_so found t h
+    advance_so left found count (advance.Failed e) t sought h = as_turned t (check.fails e) h sought
 
 -- ---- a step
 
@@ -202,8 +226,10 @@ module _ (old new : Awaited) (log log' : LogTold) (wire : ℤ) (b : ClientBucket
       let x = listing_ran old new log log' wire b at s came_so (own_at c (lists at s) is sound) runs calls told places since room (subst (CheckReads old (past_of places since calls wire) b) is l) in
       (x.0, x.1, x.2, lists_so new (past_of places since x.0 wire) b old new log log' wire s at came_so t runs hears x.3)
   check_reads c t sound (check.by_advance at d found count is empties starts left poll seeks hears) h l =
-      let x = seeks_list b wire places since count empties old new log log' starts d left poll (own_at c (reads at d found count) is sound).0 seeks calls told room (under_at c (reads at d found count) is h) (subst (CheckReads old (past_of places since calls wire) b) is l) in
-      (x.0, x.1, x.2, advance_so new (past_of places since x.0 wire) b at left found count poll t x.3 hears)
+      let before = subst (CheckReads old (past_of places since calls wire) b) is l in
+      let x = seeks_list b wire places since count empties old new log log' starts d left poll (own_at c (reads at d found count) is sound).0 seeks calls told room (under_at c (reads at d found count) is h) before.1 in
+      let whole = list_on (past_of places since calls wire) (past_of places since x.0 wire) (log_grows places since calls x.0 wire x.2) b at before.0 in
+      (x.0, x.1, x.2, advance_so new (past_of places since x.0 wire) b at whole left found count poll t x.3 hears)
   check_reads c t sound (check.by_index at s is came_so runs hears) h l =
       let ran = ran_by false (index_lines b at) s came_so (own_at c (indexes at s) is sound) runs (under_at c (indexes at s) is h) in
       (ran.calls', ran.told, ran.grows.keeps, indexes_so new (past_of places since ran.calls' wire) b old new log log' wire s at came_so t runs hears ran.came)

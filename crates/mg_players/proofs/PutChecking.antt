@@ -38,6 +38,7 @@ use Rattle.mg_gridfs.specs.declared.indexes.Place.{Place}
 use Rattle.mg_gridfs.specs.declared.indexes.Place.TheVariants as place
 use Rattle.mg_players.specs.PutSends as sends
 use Rattle.mg_players.specs.Gets.{no_manner}
+use Rattle.mg_players.specs.PutChecks.{IsGetMore}
 use Rattle.mg_players.specs.PutSends.{IsCheckCommand}
 use Rattle.mg_players.specs.Puts.{PutTask, put_bucket}
 use Rattle.mg_players.specs.Sends.{CheckFlies}
@@ -64,10 +65,16 @@ module _ (may : Fields → Type 0) where
       let k = stays_ran old new log log' wire s c runs calls told in
       (k.0, k.1, adds_ran may old new log log' wire s c is runs calls k.0 told k.1)
 
+-- where such commands are others too, those are added alone
+pub told_as : (may might : Fields → Type 0) → ((command : Fields) → may command → might command) → (log log' : LogTold) → AddsTold may log log' → AddsTold might log log'
+told_as may might so log log' adds calls told =
+    let x = adds calls told in
+    (x.0, x.1, record { keeps = x.2.keeps; added = λ place call behind there. so (fields call.command) (x.2.added place call behind there) })
+
 -- ---- the list of indexes
 
-more_flies : (t : PutTask) (c : ClientCursor) (s : Sending) → c.manner ≡ no_manner → fields s.command ≡ get_more c None → IsCheckCommand (put_bucket t) (fields s.command)
-more_flies t c s plain is = sends.reads_on c.id c.space (is ∙ ap (λ (m : Manner). next_command c.id c.space m) plain)
+more_flies : (c : ClientCursor) (s : Sending) → c.manner ≡ no_manner → fields s.command ≡ get_more c None → IsGetMore (fields s.command)
+more_flies c s plain is = (c.id, c.space, is ∙ ap (λ (m : Manner). next_command c.id c.space m) plain)
 
 heard_manner : (c c' : ClientCursor) (x : Step Sending (List ℕ)) (r : NextPoll) → Hears c x c' r → c'.manner ≡ c.manner
 heard_manner c c' (came.Pending s) r h = ap (λ (y : ClientCursor). y.manner) h.0
@@ -96,48 +103,48 @@ kept_manner try.Pending a = refl
 kept_manner (try.Ready x) a = refl
 kept_manner (try.Failed e) a = refl
 
--- it adds such commands alone, and goes on to ask for more without options
-abbrev pub AsksOn : PutTask → LogTold → LogTold → DocumentCursor → Type 0
-AsksOn t log log' d = AddsTold (IsCheckCommand (put_bucket t)) log log' × (d.cursor.manner ≡ no_manner)
+-- it adds getMores alone, and goes on to ask for more without options
+abbrev pub AsksOn : LogTold → LogTold → DocumentCursor → Type 0
+AsksOn log log' d = AddsTold IsGetMore log log' × (d.cursor.manner ≡ no_manner)
 
-module _ (t : PutTask) (old new : Awaited) (log log' : LogTold) (wire : ℤ) where
-  next_sends : (started : Bool) (c c' : ClientCursor) (r : NextPoll) → IsSound true c → c.manner ≡ no_manner → PollsNext old new log log' wire None started c c' r → AddsTold (IsCheckCommand (put_bucket t)) log log' × (c'.manner ≡ no_manner)
-  next_sends started c c' r sound plain (polls.hands_out reply doing quiet none is answer) = (told_same (IsCheckCommand (put_bucket t)) log log' quiet.log_same, ap (λ (y : ClientCursor). y.manner) is ∙ plain)
-  next_sends started c c' r sound plain (polls.is_over doing over quiet none is answer) = (told_same (IsCheckCommand (put_bucket t)) log log' quiet.log_same, ap (λ (y : ClientCursor). y.manner) is ∙ plain)
-  next_sends started c c' r sound plain (polls.not_built doing may e fails quiet none is answer) = (told_same (IsCheckCommand (put_bucket t)) log log' quiet.log_same, ap (λ (y : ClientCursor). y.manner) is ∙ plain)
+module _ (old new : Awaited) (log log' : LogTold) (wire : ℤ) where
+  next_sends : (started : Bool) (c c' : ClientCursor) (r : NextPoll) → IsSound true c → c.manner ≡ no_manner → PollsNext old new log log' wire None started c c' r → AddsTold IsGetMore log log' × (c'.manner ≡ no_manner)
+  next_sends started c c' r sound plain (polls.hands_out reply doing quiet none is answer) = (told_same IsGetMore log log' quiet.log_same, ap (λ (y : ClientCursor). y.manner) is ∙ plain)
+  next_sends started c c' r sound plain (polls.is_over doing over quiet none is answer) = (told_same IsGetMore log log' quiet.log_same, ap (λ (y : ClientCursor). y.manner) is ∙ plain)
+  next_sends started c c' r sound plain (polls.not_built doing may e fails quiet none is answer) = (told_same IsGetMore log log' quiet.log_same, ap (λ (y : ClientCursor). y.manner) is ∙ plain)
   next_sends started c c' r sound plain (polls.begins doing may s new_one more) = (
-    told_ran (IsCheckCommand (put_bucket t)) old new log log' wire s more.came (more_flies t c s plain new_one.command_is) (runs_of old new log log' wire s more.came started more.runs),
+    told_ran IsGetMore old new log log' wire s more.came (more_flies c s plain new_one.command_is) (runs_of old new log log' wire s more.came started more.runs),
     heard_manner c c' more.came r more.hears ∙ plain,
   )
   next_sends started c c' r sound plain (polls.goes_on s doing more) =
       let asks = subst (SoundBy true c) doing sound in (
-        told_ran (IsCheckCommand (put_bucket t)) old new log log' wire s more.came (more_flies t c s plain (asks.waits_on.command_is ∙ ap (get_more c) asks.plainly)) (runs_of old new log log' wire s more.came started more.runs),
+        told_ran IsGetMore old new log log' wire s more.came (more_flies c s plain (asks.waits_on.command_is ∙ ap (get_more c) asks.plainly)) (runs_of old new log log' wire s more.came started more.runs),
         heard_manner c c' more.came r more.hears ∙ plain,
       )
 
-  once_sends : (started : Bool) (d d' : DocumentCursor) (r : TryPoll) → IsSound true d.cursor → d.cursor.manner ≡ no_manner → AdvancesOnce old new log log' wire None started d d' r → AsksOn t log log' d'
-  once_sends started d d' r sound plain (documents.gives x xs some quiet none is answer) = (told_same (IsCheckCommand (put_bucket t)) log log' quiet.log_same, ap (λ (y : DocumentCursor). y.cursor.manner) is ∙ plain)
+  once_sends : (started : Bool) (d d' : DocumentCursor) (r : TryPoll) → IsSound true d.cursor → d.cursor.manner ≡ no_manner → AdvancesOnce old new log log' wire None started d d' r → AsksOn log log' d'
+  once_sends started d d' r sound plain (documents.gives x xs some quiet none is answer) = (told_same IsGetMore log log' quiet.log_same, ap (λ (y : DocumentCursor). y.cursor.manner) is ∙ plain)
   once_sends started d d' r sound plain (documents.polls empty c p polled takes) = let n = next_sends started d.cursor c p sound plain polled in (n.0, taken_manner d c p d' r takes ∙ n.1)
 
-  try_sends : (started : Bool) (d d' : DocumentCursor) (r : TryPoll) → IsSound true d.cursor → d.cursor.manner ≡ no_manner → TriesAdvance old new log log' wire None started d d' r → AsksOn t log log' d'
+  try_sends : (started : Bool) (d d' : DocumentCursor) (r : TryPoll) → IsSound true d.cursor → d.cursor.manner ≡ no_manner → TriesAdvance old new log log' wire None started d d' r → AsksOn log log' d'
   try_sends started d d' r sound plain tries = let o = once_sends started d tries.advanced r sound plain tries.tries in (o.0, ap (λ (y : DocumentCursor). y.cursor.manner) tries.kept ∙ kept_manner r tries.advanced ∙ o.1)
 
 none_after : (started : Bool) → session_after started None ≡ None
 none_after true = refl
 none_after false = refl
 
-pub seeks_send : (t : PutTask) (n : ℕ) (old new : Awaited) (log log' : LogTold) (wire : ℤ) (starts : ℕ) (d d' : DocumentCursor) (r : AdvancePoll) → IsSound true d.cursor → d.cursor.manner ≡ no_manner → SeeksDocument n old new log log' wire None starts d d' r → AsksOn t log log' d'
+pub seeks_send : (n : ℕ) (old new : Awaited) (log log' : LogTold) (wire : ℤ) (starts : ℕ) (d d' : DocumentCursor) (r : AdvancePoll) → IsSound true d.cursor → d.cursor.manner ≡ no_manner → SeeksDocument n old new log log' wire None starts d d' r → AsksOn log log' d'
 unfolding SeeksDocument
-seeks_send t zero old new log log' wire starts d d' r sound plain seeks =
-    let o = once_sends t old new log log' wire seeks.started d seeks.advanced seeks.poll sound plain seeks.tries in
+seeks_send zero old new log log' wire starts d d' r sound plain seeks =
+    let o = once_sends old new log log' wire seeks.started d seeks.advanced seeks.poll sound plain seeks.tries in
     (o.0, ended_manner seeks.poll seeks.advanced d' r seeks.ends ∙ o.1)
-seeks_send t (suc n) old new log log' wire starts d d' r sound plain seeks =
+seeks_send (suc n) old new log log' wire starts d d' r sound plain seeks =
     let on = seeks.5 in
-    let o = once_sends t old seeks.0 log seeks.1 wire seeks.2 d on.advanced (try.Ready result.Waiting) sound plain on.tries in
+    let o = once_sends old seeks.0 log seeks.1 wire seeks.2 d on.advanced (try.Ready result.Waiting) sound plain on.tries in
     let sound_on = advance_sound true old seeks.0 log seeks.1 wire None seeks.2 d on.advanced (try.Ready result.Waiting) sound refl on.tries in
-    let rest = seeks_send t n seeks.0 new seeks.1 log' wire seeks.3 seeks.4 d' r (subst (λ (y : DocumentCursor). IsSound true y.cursor) (sym on.counts) sound_on) (ap (λ (y : DocumentCursor). y.cursor.manner) on.counts ∙ o.1)
+    let rest = seeks_send n seeks.0 new seeks.1 log' wire seeks.3 seeks.4 d' r (subst (λ (y : DocumentCursor). IsSound true y.cursor) (sym on.counts) sound_on) (ap (λ (y : DocumentCursor). y.cursor.manner) on.counts ∙ o.1)
     (subst (λ (s : Option Session). SeeksDocument n seeks.0 new seeks.1 log' wire s seeks.3 seeks.4 d' r) (none_after seeks.2) seeks.7) in
-    (told_on (IsCheckCommand (put_bucket t)) log seeks.1 log' o.0 rest.0, rest.1)
+    (told_on IsGetMore log seeks.1 log' o.0 rest.0, rest.1)
 
 -- ---- what comes of a step
 
@@ -239,6 +246,9 @@ module _ (t : PutTask) (old new : Awaited) (log log' : LogTold) (wire : ℤ) (b 
   its_own : (lines : ClientBucket → List Line) → IsOfCheck (put_bucket t) (lines (put_bucket t)) → (command : List ℕ) → fields command ≡ fields_in (lines b) → IsCheckCommand (put_bucket t) (fields command)
   its_own lines of command is = sends.of_check (lines (put_bucket t)) of (is ∙ ap (λ (x : ClientBucket). fields_in (lines x)) same)
 
+  more_told : AddsTold IsGetMore log log' → AddsTold (IsCheckCommand (put_bucket t)) log log'
+  more_told adds = told_as IsGetMore (IsCheckCommand (put_bucket t)) (λ command is. sends.reads_on is.0 is.1 is.2) log log' adds
+
   ran : (s : Sending) (c : Step Sending (List ℕ)) (lines : ClientBucket → List Line) → IsOfCheck (put_bucket t) (lines (put_bucket t)) → fields s.command ≡ fields_in (lines b) → Runs old new log log' wire s c → AddsTold (IsCheckCommand (put_bucket t)) log log'
   ran s c lines of is runs = told_ran (IsCheckCommand (put_bucket t)) old new log log' wire s c (its_own lines of s.command is) runs
 
@@ -248,8 +258,8 @@ module _ (t : PutTask) (old new : Awaited) (log log' : LogTold) (wire : ℤ) (b 
   check_sends c r sound flies (by_creation k s is x runs hears) = let q = subst (IsSoundCheck b) is sound in (ran s x (λ y. creation_lines y k) (a_creation k refl) q.command_is runs, creation_flies b k x r hears)
   check_sends c r sound flies (by_listing k s is x runs hears) = let q = subst (IsSoundCheck b) is sound in (ran s x (λ y. listing_lines y k) (a_listing k refl) q.command_is runs, listing_flies k x r hears)
   check_sends c r sound flies (by_advance k cursor found count is empties starts left poll seeks hears) =
-      let o = seeks_send t empties old new log log' wire starts cursor left poll (subst (IsSoundCheck b) is sound).0 (subst CheckFlies is flies) seeks in
-      (o.0, advanced_flies b k left found count poll r o.1 hears)
+      let o = seeks_send empties old new log log' wire starts cursor left poll (subst (IsSoundCheck b) is sound).0 (subst CheckFlies is flies) seeks in
+      (more_told o.0, advanced_flies b k left found count poll r o.1 hears)
   check_sends c r sound flies (by_index k s is x runs hears) = let q = subst (IsSoundCheck b) is sound in (ran s x (λ y. index_lines y k) (an_index k refl) q.command_is runs, index_flies b k x r hears)
 
   -- So does one that is given up.
@@ -258,6 +268,6 @@ module _ (t : PutTask) (old new : Awaited) (log log' : LogTold) (wire : ℤ) (b 
   landing_sends c left sound flies (by_creation k s is x runs lands) = let q = subst (IsSoundCheck b) is sound in (ran s x (λ y. creation_lines y k) (a_creation k refl) q.command_is runs, landed_flies (creates k) (λ y. tt) x left lands)
   landing_sends c left sound flies (by_listing k s is x runs lands) = let q = subst (IsSoundCheck b) is sound in (ran s x (λ y. listing_lines y k) (a_listing k refl) q.command_is runs, landed_flies (lists k) (λ y. tt) x left lands)
   landing_sends c left sound flies (by_advance k cursor found count is started behind poll tries lands) =
-      let o = try_sends t old new log log' wire started cursor behind poll (subst (IsSoundCheck b) is sound).0 (subst CheckFlies is flies) tries in
-      (o.0, list_left k behind found count poll left o.1 lands)
+      let o = try_sends old new log log' wire started cursor behind poll (subst (IsSoundCheck b) is sound).0 (subst CheckFlies is flies) tries in
+      (more_told o.0, list_left k behind found count poll left o.1 lands)
   landing_sends c left sound flies (by_index k s is x runs lands) = let q = subst (IsSoundCheck b) is sound in (ran s x (λ y. index_lines y k) (an_index k refl) q.command_is runs, landed_flies (indexes k) (λ y. tt) x left lands)

@@ -1,37 +1,19 @@
 -- The commands of a put, as more are sent.
-use Rattle.std.proofs.Common.{◌≡◌, ◌≢◌, ◌⊎◌, ◌<◌, ◌≤◌, ℕ, suc, ℤ, Bool, true, false, List, [], ◌∷◌, ◌++◌, Option, Some, None, refl, sym, ap, ap₂, ◌∙◌, subst, inl, inr, arith, append-nil, append_assoc}
-use Rattle.std.proofs.lemmas.List.{map-append}
-use Rattle.std.specs.Prelude.{slice_get}
+use Rattle.std.proofs.Common.{◌≡◌, ◌⊎◌, ◌<◌, ◌≤◌, ℕ, ℤ, Bool, true, false, List, [], ◌∷◌, ◌++◌, length, Option, Some, None, refl, sym, ap, ◌∙◌, subst, inl, inr, arith, append-nil, append_assoc}
 use Rattle.mg_bson.specs.Raw.{fields}
 use Rattle.mg_bson.specs.Tree.{Fields}
-use Rattle.mg_link.specs.Calls.{AddsOnly}
-use Rattle.mg_link.specs.Exec.{Attempt, Begins, GoesOn, Runs, Sending, Stage, Tries, answered, first, not_sent, second, ticket_at, unsent, waits}
-use Rattle.mg_link.specs.Link.{Adds, Awaited, LogTold, Sees}
-use Rattle.mg_link.specs.Log.{Call, Sight, reply, see, waiting}
+use Rattle.mg_link.specs.Exec.{Runs, Sending, Stage, first, second, ticket_at, unsent}
+use Rattle.mg_link.specs.Link.{Awaited, LogTold}
 use Rattle.mg_link.specs.declared.action.Step.{Step}
 use Rattle.mg_link.specs.declared.action.Step.TheVariants as came
-use Rattle.mg_link.proofs.Owners.{same_some}
+use Rattle.mg_link.specs.declared.error.Error.{Error}
 use Rattle.mg_ops.specs.InsertSends.{AddsFirst}
-use Rattle.mg_ops.specs.Logs.{AddsJust, commands_sent}
-use Rattle.mg_ops.proofs.Logs.{commands_seen, done_first, failed_first, just_none, just_on, pending_first}
-use Rattle.mg_gridfs.specs.Buckets.{ClientBucket}
-use Rattle.mg_players.specs.PutSends.{AreOfCheck, Around, ChunkPieces, InsertsChunks, IsCheckCommand, NeedsNoCheck, PutSends, SentAll, SentChunks, SentSome, chunks_removal, record_at, record_insert}
-use Rattle.mg_players.specs.Puts.{IsMoment, PutTask, Supply, total}
-use Rattle.mg_players.proofs.PutChecking.{AddsTold}
-
--- ---- lists
-
-pub some_more : (commands more : List Fields) → commands ≢ [] → commands ++ more ≢ []
-some_more [] more some none = some refl
-some_more (c ∷ commands) more some none = absurd cc
-
-pub some_behind : (commands more : List Fields) → more ≢ [] → commands ++ more ≢ []
-some_behind [] more some none = some none
-some_behind (c ∷ commands) more some none = absurd cc
-
-pub of_check_on : (b : ClientBucket) (commands more : List Fields) → AreOfCheck b commands → AreOfCheck b more → AreOfCheck b (commands ++ more)
-of_check_on b [] more its rest = rest
-of_check_on b (c ∷ commands) more its rest = (its.0, of_check_on b commands more its.1 rest)
+use Rattle.mg_ops.specs.Logs.{AddsJust}
+use Rattle.mg_ops.proofs.Logs.{done_first, failed_first, pending_first}
+use Rattle.mg_players.specs.PutChecks.{CheckPasses, to_find}
+use Rattle.mg_players.specs.PutSends.{Around, ChunkPieces, InsertsChunks, IsErrorBehind, NeedsNoCheck, PutSends, SentAll, SentChunks, SentUntil, chunks_removal, file_chunks, record_at, record_insert}
+use Rattle.mg_players.specs.Puts.{IsMoment, PutTask, Supply, put_bucket, total}
+use Rattle.mg_players.proofs.PutSending.{some_chunks}
 
 -- ---- chunks
 
@@ -42,7 +24,7 @@ pieces_on supply t from (c ∷ commands) between command upto head next = (head.
 -- ---- one command more
 
 pub sent_nothing : (supply : Supply) (t : PutTask) → SentChunks supply t [] false 0
-sent_nothing supply t = record { check = []; chunks = []; parts = refl; of_check = tt; pieces = refl; some = λ is. absurd cc; nothing = λ is. refl }
+sent_nothing supply t = record { check = []; chunks = []; parts = refl; of_check = to_find 0 (omega arith) refl; pieces = refl; passed = λ is. absurd cc; nothing = λ is. refl }
 
 pub chunks_more : (supply : Supply) (t : PutTask) (commands : List Fields) (from upto : ℕ) (command : Fields) → InsertsChunks supply t from upto command → SentChunks supply t commands true from → SentChunks supply t (commands ++ command ∷ []) true upto
 chunks_more supply t commands from upto command next s = record {
@@ -51,14 +33,19 @@ chunks_more supply t commands from upto command next s = record {
   parts = ap (λ (l : List Fields). l ++ command ∷ []) s.parts ∙ append_assoc s.check s.chunks (command ∷ []);
   of_check = s.of_check;
   pieces = pieces_on supply t 0 s.chunks from command upto s.pieces next;
-  some = s.some;
+  passed = s.passed;
   nothing = λ is. absurd cc;
 }
 
 -- a file that has no full chunk needs no check
-check_comes : (t : PutTask) (checked : Bool) (check : List Fields) → (checked ≡ true → check ≢ []) → NeedsNoCheck t checked → t.chunk ≤ total t.pieces → check ≢ []
-check_comes t checked check some (inl is) full = some is
-check_comes t checked check some (inr small) full = absurd (omega (arith, small, full))
+check_comes : (t : PutTask) (checked : Bool) (check : List Fields) → (checked ≡ true → CheckPasses (put_bucket t) check) → NeedsNoCheck t checked → t.chunk ≤ total t.pieces → CheckPasses (put_bucket t) check
+check_comes t checked check passed (inl is) full = passed is
+check_comes t checked check passed (inr small) full = absurd (omega (arith, small, full))
+
+-- where nothing is removed
+pub only_chunks : (upto : ℕ) → (0 < upto) ⊎ (false ≡ true) → 0 < upto
+only_chunks upto (inl more) = more
+only_chunks upto (inr bad) = absurd cc
 
 pub sends_chunks : (supply : Supply) (t : PutTask) (commands : List Fields) (checked : Bool) (upto : ℕ) → (0 < upto → NeedsNoCheck t checked) → SentChunks supply t commands checked upto → PutSends supply t commands upto None false
 sends_chunks supply t commands checked upto may s = record {
@@ -67,7 +54,7 @@ sends_chunks supply t commands checked upto may s = record {
   parts = s.parts ∙ ap (λ (l : List Fields). s.check ++ l) (sym (append-nil s.chunks));
   of_check = s.of_check;
   pieces = s.pieces;
-  checked = λ some full. check_comes t checked s.check s.some (may some) full;
+  checked = λ some full. check_comes t checked s.check s.passed (may (only_chunks upto some)) full;
   recorded = λ m is. absurd cc;
   timely = λ m is. absurd cc;
 }
@@ -79,7 +66,7 @@ last_more supply t commands checked from upto command next s may = record {
   parts = ap (λ (l : List Fields). l ++ command ∷ []) s.parts ∙ append_assoc s.check s.chunks (command ∷ []) ∙ ap (λ (l : List Fields). s.check ++ l) (sym (append-nil (s.chunks ++ command ∷ [])));
   of_check = s.of_check;
   pieces = pieces_on supply t 0 s.chunks from command upto s.pieces next;
-  checked = λ some full. check_comes t checked s.check s.some may full;
+  checked = λ some full. check_comes t checked s.check s.passed may full;
   recorded = λ m is. absurd cc;
   timely = λ m is. absurd cc;
 }
@@ -96,13 +83,39 @@ record_more supply t commands moment command its is s = record {
   timely = λ m there. (let same : moment ≡ m = cc in subst (IsMoment supply.moment) same its);
 }
 
-pub removal_more : (supply : Supply) (t : PutTask) (commands : List Fields) (command : Fields) → command ≡ chunks_removal t → SentSome supply t commands false → SentSome supply t (commands ++ command ∷ []) true
-removal_more supply t commands command is s =
-    let p = s.2 in
-    let R : List Fields = record_at t s.1 in (
-      s.0,
-      s.1,
-      record {
+-- ---- the way back
+
+-- behind some chunks
+pub until_chunks : (supply : Supply) (t : PutTask) (commands : List Fields) (checked : Bool) (upto : ℕ) (e : Error) → NeedsNoCheck t checked → IsErrorBehind supply t upto None e → SentChunks supply t commands checked upto → SentUntil supply t commands (Some e) false
+until_chunks supply t commands checked upto e may holds s = record {
+  upto = upto;
+  moment = None;
+  sends = record {
+    check = s.check;
+    chunks = s.chunks;
+    parts = s.parts ∙ ap (λ (l : List Fields). s.check ++ l) (sym (append-nil s.chunks));
+    of_check = s.of_check;
+    pieces = s.pieces;
+    checked = λ some full. check_comes t checked s.check s.passed may full;
+    recorded = λ m is. absurd cc;
+    timely = λ m is. absurd cc;
+  };
+  behind = λ full. check_comes t checked s.check s.passed may full;
+  holds = holds;
+}
+
+-- behind all chunks
+pub until_all : (supply : Supply) (t : PutTask) (commands : List Fields) (moment : Option ℤ) (e : Error) → 0 < t.chunk → IsErrorBehind supply t (length (file_chunks t)) moment e → SentAll supply t commands moment → SentUntil supply t commands (Some e) false
+until_all supply t commands moment e room holds s = record { upto = length (file_chunks t); moment = moment; sends = s; behind = λ full. s.checked (inl (some_chunks t room full)) full; holds = holds }
+
+pub removal_more : (supply : Supply) (t : PutTask) (commands : List Fields) (command : Fields) (error : Option Error) → command ≡ chunks_removal t → SentUntil supply t commands error false → SentUntil supply t (commands ++ command ∷ []) error true
+removal_more supply t commands command error is s =
+    let p = s.sends in
+    let R : List Fields = record_at t s.moment in
+    record {
+      upto = s.upto;
+      moment = s.moment;
+      sends = record {
         check = p.check;
         chunks = p.chunks;
         parts = ap (λ (l : List Fields). l ++ command ∷ []) p.parts ∙ append_assoc p.check (p.chunks ++ (R ++ [])) (command ∷ [])
@@ -110,132 +123,13 @@ removal_more supply t commands command is s =
             ∙ ap (λ (c : Fields). p.check ++ (p.chunks ++ (R ++ c ∷ []))) is;
         of_check = p.of_check;
         pieces = p.pieces;
-        checked = p.checked;
+        checked = λ some full. s.behind full;
         recorded = p.recorded;
         timely = p.timely;
-      },
-    )
-
--- ---- the request of a check
-
--- the commands are all this one
-abbrev pub AreAll : Fields → List Fields → Type 0
-AreAll command [] = Unit {0}
-AreAll command (c ∷ commands) = (c ≡ command) × AreAll command commands
-
-all_on : (command : Fields) (commands more : List Fields) → AreAll command commands → AreAll command more → AreAll command (commands ++ more)
-all_on command [] more all rest = rest
-all_on command (c ∷ commands) more all rest = (all.0, all_on command commands more all.1 rest)
-
--- this command was added, once or more where that is so
-pub record Repeats (log log' : LogTold) (command : Fields) (sent : Type 0) : Type 0 where
-  pub more : List Fields
-  pub adds : AddsJust log log' more
-  pub same : AreAll command more
-  pub some : sent → more ≢ []
-
-just_adds : (log log' : LogTold) (command : List ℕ) (seen : Sight) → Adds log log' command seen → AddsJust log log' (fields command ∷ [])
-just_adds log log' command seen adds calls told =
-    let add = adds calls told in
-    let call : Call = record { command = command; position = add.0; seen = seen } in
-    (calls ++ call ∷ [], add.1, map-append (λ (c : Call). fields c.command) calls (call ∷ []))
-
-just_sees : (log log' : LogTold) (place : Option ℕ) (seen : Sight) → Sees log log' place seen → AddsJust log log' []
-just_sees log log' place seen sees calls told =
-    let s = sees calls told in
-    (see s.0 seen calls, s.5, commands_seen s.0 seen calls ∙ sym (append-nil (commands_sent calls)))
-
-once_added : (log log' : LogTold) (command : Fields) (sent : Type 0) → AddsJust log log' (command ∷ []) → Repeats log log' command sent
-once_added log log' command sent adds = record { more = command ∷ []; adds = adds; same = (refl, tt); some = λ is none. absurd cc }
-
-none_added : (log log' : LogTold) (command : Fields) (sent : Type 0) → (sent → ⊥) → AddsJust log log' [] → Repeats log log' command sent
-none_added log log' command sent never adds = record { more = []; adds = adds; same = tt; some = λ is. absurd (never is) }
-
-module _ (old new : Awaited) (log log' : LogTold) (command : List ℕ) where
-  begun_adds : (attempt : Attempt) → Begins old new log log' command attempt → Repeats log log' (fields command) (attempt ≢ not_sent)
-  begun_adds not_sent b = none_added log log' (fields command) (not_sent ≢ not_sent) (λ is. is refl) (just_none log log' b.log_same)
-  begun_adds (waits given) b = once_added log log' (fields command) (waits given ≢ not_sent) (just_adds log log' command waiting b.adds)
-  begun_adds (answered seen) b = once_added log log' (fields command) (answered seen ≢ not_sent) (just_adds log log' command seen b.adds)
-
-  gone_on_adds : (ticket : ℕ) (attempt : Attempt) → GoesOn old new log log' ticket attempt → AddsJust log log' []
-  gone_on_adds ticket not_sent g = absurd g
-  gone_on_adds ticket (waits given) g = just_none log log' g.log_same
-  gone_on_adds ticket (answered seen) g = just_sees log log' (old ticket) seen g.sees
-
-  -- it was not sent before, and is now
-  abbrev pub IsNow : Stage → Attempt → Type 0
-  IsNow stage attempt = (stage ≡ unsent) × (attempt ≢ not_sent)
-
-  tried_adds : (stage : Stage) (attempt : Attempt) → Tries old new log log' command stage attempt → Repeats log log' (fields command) (IsNow stage attempt)
-  tried_adds unsent attempt t = let b = begun_adds attempt t in record { more = b.more; adds = b.adds; same = b.same; some = λ is. b.some is.1 }
-  tried_adds (first ticket) attempt t = none_added log log' (fields command) (IsNow (first ticket) attempt) (λ is. let bad : first ticket ≡ unsent = is.0 in absurd cc) (gone_on_adds ticket attempt t)
-  tried_adds (second ticket) attempt t = none_added log log' (fields command) (IsNow (second ticket) attempt) (λ is. let bad : second ticket ≡ unsent = is.0 in absurd cc) (gone_on_adds ticket attempt t)
-
--- it waits, or has its reply
-abbrev pub HasCome : Step Sending (List ℕ) → Type 0
-HasCome (came.Pending s) = Unit {0}
-HasCome (came.Done bytes) = Unit {0}
-HasCome (came.Failed e) = ⊥
-
-waits_sent : (attempt : Attempt) (ticket : ℕ) → attempt ≡ waits ticket → attempt ≢ not_sent
-waits_sent attempt ticket is none = let bad : waits ticket ≡ not_sent = sym is ∙ none in absurd cc
-
-reply_sent : (attempt : Attempt) (bytes : List ℕ) → attempt ≡ answered (reply bytes) → attempt ≢ not_sent
-reply_sent attempt bytes is none = let bad : answered (reply bytes) ≡ not_sent = sym is ∙ none in absurd cc
-
-module _ (old new : Awaited) (log log' : LogTold) (wire : ℤ) (s : Sending) where
-  abbrev pub Ran : Step Sending (List ℕ) → Type 0
-  Ran c = Repeats log log' (fields s.command) ((s.stage ≡ unsent) × HasCome c)
-
-  ran_once : (c : Step Sending (List ℕ)) (attempt : Attempt) → Tries old new log log' s.command s.stage attempt → (HasCome c → attempt ≢ not_sent) → Ran c
-  ran_once c attempt tries sent = let x = tried_adds old new log log' s.command s.stage attempt tries in record { more = x.more; adds = x.adds; same = x.same; some = λ is. x.some (is.0, sent is.1) }
-
-  ran_twice : (c : Step Sending (List ℕ)) (between : Awaited) (mid : LogTold) (attempt again : Attempt) → Tries old between log mid s.command s.stage attempt → Begins between new mid log' s.command again → (HasCome c → again ≢ not_sent) → Ran c
-  ran_twice c between mid attempt again tries begins sent =
-      let x = tried_adds old between log mid s.command s.stage attempt tries in
-      let y = begun_adds between new mid log' s.command again begins in
-      record {
-        more = x.more ++ y.more;
-        adds = just_on log mid log' x.more y.more x.adds y.adds;
-        same = all_on (fields s.command) x.more y.more x.same y.same;
-        some = λ is. some_behind x.more y.more (y.some (sent is.1));
-      }
-
-  -- A poll of it adds its command alone, and at least once where it was not sent before and did not fail.
-  pub runs_repeat : (c : Step Sending (List ℕ)) → Runs old new log log' wire s c → Ran c
-  runs_repeat (came.Pending s') (inl once) = ran_once (came.Pending s') once.attempt once.tries (λ is. waits_sent once.attempt once.gives.0 once.gives.1)
-  runs_repeat (came.Done bytes) (inl once) = ran_once (came.Done bytes) once.attempt once.tries (λ is. reply_sent once.attempt bytes once.gives.0)
-  runs_repeat (came.Failed e) (inl once) = ran_once (came.Failed e) once.attempt once.tries (λ bad. absurd bad)
-  runs_repeat (came.Pending s') (inr twice) = ran_twice (came.Pending s') twice.between twice.log_between twice.attempt twice.again twice.tries twice.begins (λ is. waits_sent twice.again twice.gives.0 twice.gives.1)
-  runs_repeat (came.Done bytes) (inr twice) = ran_twice (came.Done bytes) twice.between twice.log_between twice.attempt twice.again twice.tries twice.begins (λ is. reply_sent twice.again bytes twice.gives.0)
-  runs_repeat (came.Failed e) (inr twice) = ran_twice (came.Failed e) twice.between twice.log_between twice.attempt twice.again twice.tries twice.begins (λ bad. absurd bad)
-
--- so it is a command of the check
-pub all_of_check : (b : ClientBucket) (command : Fields) (more : List Fields) → IsCheckCommand b command → AreAll command more → AreOfCheck b more
-all_of_check b command [] its same = tt
-all_of_check b command (c ∷ more) its same = (subst (IsCheckCommand b) (sym same.0) its, all_of_check b command more its same.1)
-
--- ---- what was added to a log
-
-each_of_check : (b : ClientBucket) (calls : List Call) → ((place : ℕ) (call : Call) → slice_get calls place ≡ Some call → IsCheckCommand b (fields call.command)) → AreOfCheck b (commands_sent calls)
-each_of_check b [] each = tt
-each_of_check b (c ∷ calls) each = (each 0 c refl, each_of_check b calls (λ place call there. each (suc place) call there))
-
-such_added : (b : ClientBucket) (calls calls' : List Call) → AddsOnly (IsCheckCommand b) calls calls' → (more : List Fields) × (commands_sent calls' ≡ commands_sent calls ++ more) × AreOfCheck b more
-such_added b [] calls' a = (commands_sent calls', refl, each_of_check b calls' (λ place call there. a.added place call (omega arith) there))
-such_added b (c ∷ calls) [] a = let k = a.keeps 0 c refl in absurd (let bad : None ≡ Some k.0 = k.1 in cc)
-such_added b (c ∷ calls) (d ∷ calls') a =
-    let k = a.keeps 0 c refl in
-    let same : d ≡ k.0 = same_some d k.0 k.1 in
-    let rest = such_added b calls calls' (record { keeps = λ place call there. a.keeps (suc place) call there; added = λ place call behind there. a.added (suc place) call (omega (arith, behind)) there }) in
-    (rest.0, ap₂ (λ (x : Fields) (l : List Fields). x ∷ l) (ap (λ (x : Call). fields x.command) same ∙ ap fields k.2) rest.1, rest.2)
-
-pub such_told : (b : ClientBucket) (log log' : LogTold) → AddsTold (IsCheckCommand b) log log' → (more : List Fields) × AddsJust log log' more × AreOfCheck b more
-such_told b None log' adds = ([], (λ calls told. absurd cc), tt)
-such_told b (Some calls) log' adds =
-    let x = adds calls refl in
-    let s = such_added b calls x.0 x.2 in
-    (s.0, (λ mine told. (x.0, x.1, subst (λ (l : List Call). commands_sent x.0 ≡ commands_sent l ++ s.0) (same_some calls mine told) s.1)), s.2)
+      };
+      behind = s.behind;
+      holds = s.holds;
+    }
 
 -- ---- a write
 

@@ -25,7 +25,7 @@ use Rattle.mg_players.specs.declared.put.PutStage.TheVariants as puts
 use Rattle.mg_players.proofs.PutPolled.{takes_close, takes_write}
 use Rattle.mg_players.proofs.PutSending.{joined_total}
 use Rattle.mg_players.proofs.PutTurning.{put_over, put_still}
-use Rattle.mg_players.proofs.PutWriting.{ClosePolled, WritePolled, close_adds, close_clears, close_done, close_fails, close_room, close_said_done, close_said_fails, close_waits, write_adds, write_clears, write_done, write_fails, write_room, write_said, write_waits}
+use Rattle.mg_players.proofs.PutWriting.{ClosePolled, WritePolled, close_adds, close_clears, close_done, close_fails, close_lays_done, close_lays_fails, close_room, close_said_done, close_said_fails, close_waits, write_adds, write_clears, write_done, write_fails, write_lays, write_room, write_said, write_waits}
 use Rattle.mg_players.proofs.Telling.{answered_by, extends_answered, extends_going, going_on}
 
 -- ---- the put behind a poll, by another name
@@ -126,7 +126,7 @@ module _ (moment : ℤ) (p : PutPlayer) (going going' : Going) (bytes : List ℕ
         record {
           longer = write_room (supply_from supply n) T Ids Later old new log log' wire U U' bytes (wrote.Failed e) polled holds.sound.between p.done there holds.doing calls calls' told told' q says.0;
           places = going_on q (length calls) (length calls');
-          tells = (says.0.opened, says.0.counted, inr (says.0.sized, write_fails (supply_from supply n) T Ids Later old new log log' wire U U' bytes (wrote.Failed e) polled holds.sound.between p.done there holds.doing calls calls' told told' q says.0 e refl, write_clears (supply_from supply n) T Ids Later old new log log' wire U U' bytes (wrote.Failed e) polled holds.sound.between p.done there holds.doing calls calls' told told' q says.0 e refl), tt, write_said (supply_from supply n) T Ids Later old new log log' wire U U' bytes (wrote.Failed e) polled holds.sound.between p.done there holds.doing calls calls' told told' q says.0 e refl);
+          tells = (says.0.opened, says.0.counted, inr (says.0.sized, write_fails (supply_from supply n) T Ids Later old new log log' wire U U' bytes (wrote.Failed e) polled holds.sound.between p.done there holds.doing calls calls' told told' q says.0 e refl, write_clears (supply_from supply n) T Ids Later old new log log' wire U U' bytes (wrote.Failed e) polled holds.sound.between p.done there holds.doing calls calls' told told' q says.0 e refl), tt, write_said (supply_from supply n) T Ids Later old new log log' wire U U' bytes (wrote.Failed e) polled holds.sound.between p.done there holds.doing calls calls' told told' q says.0 e refl, write_lays (supply_from supply n) T Ids Later old new log log' wire U U' bytes (wrote.Failed e) polled holds.sound.between p.done there holds.doing calls calls' told told' q says.0 e refl);
           extends = extends_going q (suc p.done) (suc p.done) (length calls) (length calls') refl (write_room (supply_from supply n) T Ids Later old new log log' wire U U' bytes (wrote.Failed e) polled holds.sound.between p.done there holds.doing calls calls' told told' q says.0);
           adds = write_adds (supply_from supply n) T Ids Later old new log log' wire U U' bytes (wrote.Failed e) polled holds.sound.between p.done there holds.doing calls calls' told told' q says.0;
         };
@@ -225,7 +225,7 @@ module _ (moment : ℤ) (p : PutPlayer) (going going' : Going) (old new : Awaite
         record {
           longer = close_room (supply_from supply n) Task Source Source' moment may old new log log' wire V V' end.Done polled holds.sound.between p.done all holds.doing calls calls' told told' q says.0;
           places = going_on q (length calls) (length calls');
-          tells = (says.0.opened, says.0.counted, (says.1 ∙ sym (joined_total (Task).pieces), says.0.sized, close_done (supply_from supply n) Task Source Source' moment may old new log log' wire V V' end.Done polled holds.sound.between p.done all holds.doing calls calls' told told' q says.0 refl), all_made, close_said_done (supply_from supply n) Task Source Source' moment may old new log log' wire V V' end.Done polled holds.sound.between p.done all holds.doing calls calls' told told' q says.0 going.length refl);
+          tells = (says.0.opened, says.0.counted, (says.1 ∙ sym (joined_total (Task).pieces), says.0.sized, close_done (supply_from supply n) Task Source Source' moment may old new log log' wire V V' end.Done polled holds.sound.between p.done all holds.doing calls calls' told told' q says.0 refl), all_made, close_said_done (supply_from supply n) Task Source Source' moment may old new log log' wire V V' end.Done polled holds.sound.between p.done all holds.doing calls calls' told told' q says.0 going.length refl, close_lays_done (supply_from supply n) Task Source Source' moment may old new log log' wire V V' end.Done polled holds.sound.between p.done all holds.doing calls calls' told told' q says.0 refl);
           extends = extends_going q (suc p.done) (suc p.done) (length calls) (length calls') refl (close_room (supply_from supply n) Task Source Source' moment may old new log log' wire V V' end.Done polled holds.sound.between p.done all holds.doing calls calls' told told' q says.0);
           adds = close_adds (supply_from supply n) Task Source Source' moment may old new log log' wire V V' end.Done polled holds.sound.between p.done all holds.doing calls calls' told told' q says.0;
         };
@@ -242,7 +242,7 @@ module _ (moment : ℤ) (p : PutPlayer) (going going' : Going) (old new : Awaite
         record {
           longer = close_room (supply_from supply n) Task Source Source' moment may old new log log' wire V V' (end.Failed e) polled holds.sound.between p.done all holds.doing calls calls' told told' q says.0;
           places = going_on q (length calls) (length calls');
-          tells = (says.0.opened, says.0.counted, inr (says.0.sized, close_fails (supply_from supply n) Task Source Source' moment may old new log log' wire V V' (end.Failed e) polled holds.sound.between p.done all holds.doing calls calls' told told' q says.0 e refl, close_clears (supply_from supply n) Task Source Source' moment may old new log log' wire V V' (end.Failed e) polled holds.sound.between p.done all holds.doing calls calls' told told' q says.0 e refl), tt, close_said_fails (supply_from supply n) Task Source Source' moment may old new log log' wire V V' (end.Failed e) polled holds.sound.between p.done all holds.doing calls calls' told told' q says.0 e refl);
+          tells = (says.0.opened, says.0.counted, inr (says.0.sized, close_fails (supply_from supply n) Task Source Source' moment may old new log log' wire V V' (end.Failed e) polled holds.sound.between p.done all holds.doing calls calls' told told' q says.0 e refl, close_clears (supply_from supply n) Task Source Source' moment may old new log log' wire V V' (end.Failed e) polled holds.sound.between p.done all holds.doing calls calls' told told' q says.0 e refl), tt, close_said_fails (supply_from supply n) Task Source Source' moment may old new log log' wire V V' (end.Failed e) polled holds.sound.between p.done all holds.doing calls calls' told told' q says.0 e refl, close_lays_fails (supply_from supply n) Task Source Source' moment may old new log log' wire V V' (end.Failed e) polled holds.sound.between p.done all holds.doing calls calls' told told' q says.0 e refl);
           extends = extends_going q (suc p.done) (suc p.done) (length calls) (length calls') refl (close_room (supply_from supply n) Task Source Source' moment may old new log log' wire V V' (end.Failed e) polled holds.sound.between p.done all holds.doing calls calls' told told' q says.0);
           adds = close_adds (supply_from supply n) Task Source Source' moment may old new log log' wire V V' (end.Failed e) polled holds.sound.between p.done all holds.doing calls calls' told told' q says.0;
         };

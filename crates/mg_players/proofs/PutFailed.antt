@@ -58,11 +58,11 @@ close_by t awaited call left u' past (steps.waits p) is h = subst (UploadStands 
 close_by t awaited call left u' past steps.done is h = tt
 close_by t awaited call left u' past (steps.failed e) is h = h
 
-first_stands : (t : PutTask) (awaited : Awaited) (past : Past) (b : Bool) → PhaseStands t awaited past (if b then fills else begins)
+pub first_stands : (t : PutTask) (awaited : Awaited) (past : Past) (b : Bool) → PhaseStands t awaited past (if b then fills else begins)
 first_stands t awaited past true = (tt, tt)
 first_stands t awaited past false = (tt, tt)
 
-first_under : (awaited : Awaited) (past : Past) (aim : Aim) (b : Bool) → PhaseUnderway awaited past aim (if b then fills else begins)
+pub first_under : (awaited : Awaited) (past : Past) (aim : Aim) (b : Bool) → PhaseUnderway awaited past aim (if b then fills else begins)
 first_under awaited past aim true = tt
 first_under awaited past aim false = tt
 
@@ -117,7 +117,7 @@ module _ (supply : Supply) (t : PutTask) (old new : Awaited) (log log' : LogTold
 
     pub write_ends : (r : WritePoll) → Writes old new log log' wire ids drawn u u' bytes r → Written r
     write_ends r (calls_of.refused refuses quiet is) = absurd (takes_write u.doing made (length t.pieces) doing within refuses)
-    write_ends r (calls_of.not_taken rests_so quiet is) = as_write r (wrote.Failed (plain kind.OutOfMemory)) is (calls, quiet.quiet.log_same ∙ told, same_keeps calls, fails.not_taken refl)
+    write_ends r (calls_of.not_taken rests_so quiet is) = as_write r (wrote.Failed (plain kind.OutOfMemory)) is (calls, quiet.quiet.log_same ∙ told, same_keeps calls, fails.early (fails.not_taken refl))
     write_ends r (calls_of.kept rests_so short quiet none is answer) = as_write r (wrote.Wrote (length bytes)) answer (calls, quiet.log_same ∙ told, same_keeps calls, tt)
     write_ends r (calls_of.starts rests_so full s drives answer) = as_write r (wrote_by (length bytes) s) answer (write_driven (length bytes) (write (length bytes)) (first_phase u) (with_bytes bytes u) s drives (starts_well rests_so s drives))
     write_ends r (calls_of.goes_on piece p is s drives answer) =

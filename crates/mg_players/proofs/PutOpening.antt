@@ -27,9 +27,11 @@ use Rattle.mg_players.specs.Plays.{Places, SentAt, TellsBehind, TurnTells, all_p
 use Rattle.mg_players.specs.Putting.{Opens, OpensFrom, PutTurns}
 use Rattle.mg_players.specs.Puts.{BegunFor, ComeNext, IsPutDoing, NamesFiles, PutTask, PutsKnowing, Supply, put_aim, writes}
 use Rattle.mg_players.specs.Sends.{MaySend}
-use Rattle.mg_players.specs.PutSends.{PutEndsSent, SentChunks}
+use Rattle.mg_players.specs.PutSends as put_sends
+use Rattle.mg_players.specs.PutSends.{FailsSo, PutEndsSent, SentChunks}
 use Rattle.mg_players.proofs.PutCommands.{sent_nothing}
-use Rattle.mg_players.proofs.PutOrder.{none_some}
+use Rattle.mg_players.proofs.PutLaid.{nothing_lays}
+use Rattle.mg_players.proofs.PutOrder.{none_some, unremoved}
 use Rattle.mg_players.proofs.PutSupplied.{next_as}
 use Rattle.mg_players.specs.Telling.{PutSaid, PutSays, PutTells, PutTellsOpen, SentNothing, put_number}
 use Rattle.mg_players.specs.declared.put.Beginning.{Beginning}
@@ -68,6 +70,7 @@ module _ (supply : Supply) (t : PutTask) (ids : ℕ → List ℕ) (next : ComeNe
     reads = tt;
     knows = fresh_knows;
     said = said_none calls q (λ commands. SentChunks supply t commands false 0) nothing (sent_nothing supply t);
+    lays = nothing_lays t calls wire (all_places q) (nowhere q nothing);
   }
 
   pub opened_tells : (u : ClientUpload) (done : ℕ) → done ≡ 0 → u ≡ fresh_upload (put_aim t) → PutTellsOpen awaited calls wire q supply t ids done u
@@ -84,7 +87,7 @@ opens_tells supply t awaited calls wire q begun done (puts.Goes going) none is n
     (opened_tells supply t (ids_left going.ids) (next_as supply t (ids_left begun.ids) (ids_left going.ids) opens.4 0 is.1) awaited calls wire q opens.0 sized nothing (upload_of going.upload) done none opens.1, opens.3 ∙ is.0)
 opens_tells supply t awaited calls wire q begun done (puts.Ended ended.Unfinished) none is nothing opens = absurd opens
 opens_tells supply t awaited calls wire q begun done (puts.Ended (ended.Gave n)) none is nothing opens = absurd opens
-opens_tells supply t awaited calls wire q begun done (puts.Ended (ended.Failed e)) none is nothing opens = (nothing.0, ap length nothing.1 ∙ sym none, inl (opens, nowhere q nothing), tt, said_none calls q (λ commands. PutEndsSent supply t commands (ended.Failed e)) nothing (false, none_some supply t [] refl))
+opens_tells supply t awaited calls wire q begun done (puts.Ended (ended.Failed e)) none is nothing opens = (nothing.0, ap length nothing.1 ∙ sym none, inl (opens, nowhere q nothing), tt, said_none calls q (λ commands. PutEndsSent supply t (sent_at q.now calls wire) commands (ended.Failed e)) nothing (unremoved supply t [] (FailsSo supply t (sent_at q.now calls wire) e) (λ upto moment. put_sends.not_opened refl opens) (none_some supply t [] refl)), inl (nowhere q nothing))
 
 module _ (awaited : Awaited) (log : LogTold) (wire moment : ℤ) (p : PutPlayer) (begun : Result Beginning Error) (none : p.done ≡ 0) where
   abbrev T : PutTask
@@ -149,4 +152,4 @@ pub opening_turns : (awaited : Awaited) (log : LogTold) (wire moment : ℤ) (p :
 opening_turns awaited log wire moment p (Ok begun) s none opens = opened_so awaited log wire moment p (Ok begun) none begun s (λ supply is. is) opens
 opening_turns awaited log wire moment p (Err e) s none opens =
     subst (λ (x : PutStage). PutTurns awaited awaited log log wire moment (record p { stage = puts.Begins (Err e) }) (record p { stage = x })) (sym opens)
-    (failed_so awaited log wire moment p (Err e) none (ended.Failed e) (λ supply calls q nothing is. (nothing.0, ap length nothing.1 ∙ sym none, inl (inl is, nowhere q nothing), tt, said_none calls q (λ commands. PutEndsSent supply (writes p.what) commands (ended.Failed e)) nothing (false, none_some supply (writes p.what) [] refl))))
+    (failed_so awaited log wire moment p (Err e) none (ended.Failed e) (λ supply calls q nothing is. (nothing.0, ap length nothing.1 ∙ sym none, inl (inl is, nowhere q nothing), tt, said_none calls q (λ commands. PutEndsSent supply (writes p.what) (sent_at q.now calls wire) commands (ended.Failed e)) nothing (unremoved supply (writes p.what) [] (FailsSo supply (writes p.what) (sent_at q.now calls wire) e) (λ upto moment. put_sends.not_opened refl (inl is)) (none_some supply (writes p.what) [] refl)), inl (nowhere q nothing))))

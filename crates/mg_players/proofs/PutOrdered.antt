@@ -1,73 +1,91 @@
 -- What a poll of a put's upload sends, in its order.
-use Rattle.std.proofs.Common.{◌≡◌, ◌<◌, ◌≤◌, ◌+◌, ◌++◌, ℕ, ℤ, Bool, true, false, List, [], length, take, drop, Some, refl, sym, ap, ◌∙◌, subst, append-nil}
+use Rattle.std.proofs.Common.{◌≡◌, ◌<◌, ◌≤◌, ◌+◌, ◌++◌, ℕ, ℤ, Bool, true, false, List, [], length, take, drop, Option, Some, None, refl, sym, ◌∙◌, subst, arith, append-nil}
 use Rattle.std.specs.Prelude.{slice_get, if◌then◌else◌}
 use Rattle.std.proofs.lemmas.List.{take_all}
 use Rattle.mg_bson.specs.Tree.{Fields}
-use Rattle.mg_link.specs.Calls.{Keeps}
+use Rattle.mg_link.specs.Calls.{Past, past_of}
 use Rattle.mg_link.specs.Errors.{plain}
 use Rattle.mg_link.specs.Link.{Awaited, LogTold, SendsNothing}
 use Rattle.mg_link.specs.Log.{Call}
+use Rattle.mg_link.specs.declared.error.Error.{Error}
 use Rattle.mg_link.specs.declared.error.ErrorKind.TheVariants as kind
 use Rattle.mg_ops.specs.Logs.{AddsJust}
 use Rattle.mg_ops.proofs.Logs.{just_none}
 use Rattle.mg_gridfs.specs.Calls as calls_of
 use Rattle.mg_gridfs.specs.Calls.{Closes, Drives, Writes, at_work, doing_behind, ended_by, first_phase, with_bytes, wrote_by}
+use Rattle.mg_gridfs.specs.Causes.{IsUploading, PhaseUnderway, UnderwayBy}
 use Rattle.mg_gridfs.specs.Steps as steps
 use Rattle.mg_gridfs.specs.Steps.{Stepped}
 use Rattle.mg_gridfs.specs.Uploads as uploads
-use Rattle.mg_gridfs.specs.Uploads.{ClientUpload, Doing, IsBetween, Phase, SoundBy, begins, busy, close, fills, idle, rests, write}
+use Rattle.mg_gridfs.specs.Uploads.{ClientUpload, Doing, IsBetween, Phase, SoundBy, begins, busy, close, error_by, fills, idle, rests, write}
 use Rattle.mg_gridfs.specs.declared.polls.Step2.{Step2}
 use Rattle.mg_gridfs.specs.declared.polls.Step2.TheVariants as end
 use Rattle.mg_gridfs.specs.declared.polls.WritePoll.{WritePoll}
 use Rattle.mg_gridfs.specs.declared.polls.WritePoll.TheVariants as wrote
 use Rattle.mg_gridfs.proofs.Calling.{bounds_bytes}
 use Rattle.mg_gridfs.proofs.Polled.{begun_sound, begun_writes, bounds_doing}
-use Rattle.mg_players.specs.Causes.{AreInLog, commands_at}
-use Rattle.mg_players.specs.Plays.{Places, all_places}
-use Rattle.mg_players.specs.PutSends.{DoingSent, PhaseSent, SentAll, SentChunks, SentSome}
-use Rattle.mg_players.specs.Puts.{CutBy, DoingSupplied, IsCutAt, IsMoment, IsPutDoing, PutTask, Supply, joined, put_aim, taken_in}
+use Rattle.mg_players.specs.PutFailures as fails
+use Rattle.mg_players.specs.PutFailures.{AnswersPut, PutReads}
+use Rattle.mg_players.specs.PutSends as put_sends
+use Rattle.mg_players.specs.PutSends.{DoingSent, PhaseSent, SentAll, SentChunks, SentFor}
+use Rattle.mg_players.specs.Puts.{CutBy, DoingSupplied, IsCutAt, IsMoment, IsPutDoing, PutTask, Supply, joined, put_aim, put_bucket, taken_in}
 use Rattle.mg_players.specs.Sends.{PutFlies}
-use Rattle.mg_players.specs.Telling.{PutSaid}
-use Rattle.mg_players.proofs.Commands.{at_kept, at_sent, below_more, below_since}
-use Rattle.mg_players.proofs.PutOrder.{SteppedSent, chunks_any, steps_order}
+use Rattle.mg_players.proofs.PutFailed.{UploadStands, first_stands, first_under}
+use Rattle.mg_players.proofs.PutFailing.{PhaseStands}
+use Rattle.mg_players.proofs.PutOrder.{Reason, SteppedSent, chunks_at, steps_order}
 use Rattle.mg_players.proofs.PutPolled.{cut_doing, first_cut, first_flies, first_supplied, no_write, phase_doing, rest_of, sound_on, takes, takes_close, takes_write}
 use Rattle.mg_players.proofs.PutSending.{Fits}
-use Rattle.mg_link.proofs.Calls.{keeps_longer}
-use Rattle.mg_players.specs.Causes.{sent_since}
 
 -- what stands behind a poll of a write that left the upload so
-abbrev pub WriteSaid : Supply → PutTask → List Fields → ClientUpload → WritePoll → Type 0
-WriteSaid supply t commands u' wrote.Pending = DoingSent supply t commands u'.checked u'.sent u'.doing
-WriteSaid supply t commands u' (wrote.Wrote n) = DoingSent supply t commands u'.checked u'.sent u'.doing
-WriteSaid supply t commands u' (wrote.Failed e) = (removed : Bool) × SentSome supply t commands removed
+abbrev pub WriteSaid : Supply → PutTask → (Error → ℕ → Option ℤ → Bool → Type 0) → List Fields → ClientUpload → WritePoll → Type 0
+WriteSaid supply t W commands u' wrote.Pending = DoingSent supply t commands u'.checked u'.sent u'.doing
+WriteSaid supply t W commands u' (wrote.Wrote n) = DoingSent supply t commands u'.checked u'.sent u'.doing
+WriteSaid supply t W commands u' (wrote.Failed e) = SentFor supply t commands (W e)
 
 -- behind one of a close
-abbrev pub CloseSaid : Supply → PutTask → List Fields → ClientUpload → Step2 → Type 0
-CloseSaid supply t commands u' end.Pending = DoingSent supply t commands u'.checked u'.sent u'.doing
-CloseSaid supply t commands u' end.Done = (moment : ℤ) × SentAll supply t commands (Some moment)
-CloseSaid supply t commands u' (end.Failed e) = (removed : Bool) × SentSome supply t commands removed
+abbrev pub CloseSaid : Supply → PutTask → (Error → ℕ → Option ℤ → Bool → Type 0) → List Fields → ClientUpload → Step2 → Type 0
+CloseSaid supply t W commands u' end.Pending = DoingSent supply t commands u'.checked u'.sent u'.doing
+CloseSaid supply t W commands u' end.Done = (moment : ℤ) × SentAll supply t commands (Some moment)
+CloseSaid supply t W commands u' (end.Failed e) = SentFor supply t commands (W e)
 
 abbrev DoingOf : Supply → PutTask → List Fields → ClientUpload → Type 0
 DoingOf supply t commands u = DoingSent supply t commands u.checked u.sent u.doing
 
-write_said : (supply : Supply) (t : PutTask) (commands : List Fields) (piece : ℕ) (left u' : ClientUpload) (s : Stepped) → u' ≡ record left { doing = doing_behind (write piece) s } → SteppedSent supply t commands left.checked left.sent (write piece) s → WriteSaid supply t commands u' (wrote_by piece s)
-write_said supply t commands piece left u' (steps.goes p) is h = subst (DoingOf supply t commands) (sym is) h
-write_said supply t commands piece left u' (steps.waits p) is h = subst (DoingOf supply t commands) (sym is) h
-write_said supply t commands piece left u' steps.done is h = subst (DoingOf supply t commands) (sym is) h
-write_said supply t commands piece left u' (steps.failed e) is h = h
+write_said : (supply : Supply) (t : PutTask) (W : Error → ℕ → Option ℤ → Bool → Type 0) (commands : List Fields) (piece : ℕ) (left u' : ClientUpload) (s : Stepped) → u' ≡ record left { doing = doing_behind (write piece) s } → SteppedSent supply t W commands left.checked left.sent (write piece) s → WriteSaid supply t W commands u' (wrote_by piece s)
+write_said supply t W commands piece left u' (steps.goes p) is h = subst (DoingOf supply t commands) (sym is) h
+write_said supply t W commands piece left u' (steps.waits p) is h = subst (DoingOf supply t commands) (sym is) h
+write_said supply t W commands piece left u' steps.done is h = subst (DoingOf supply t commands) (sym is) h
+write_said supply t W commands piece left u' (steps.failed e) is h = h
 
-close_said : (supply : Supply) (t : PutTask) (commands : List Fields) (left u' : ClientUpload) (s : Stepped) → u' ≡ record left { doing = doing_behind close s } → SteppedSent supply t commands left.checked left.sent close s → CloseSaid supply t commands u' (ended_by s)
-close_said supply t commands left u' (steps.goes p) is h = subst (DoingOf supply t commands) (sym is) h
-close_said supply t commands left u' (steps.waits p) is h = subst (DoingOf supply t commands) (sym is) h
-close_said supply t commands left u' steps.done is h = h
-close_said supply t commands left u' (steps.failed e) is h = h
+close_said : (supply : Supply) (t : PutTask) (W : Error → ℕ → Option ℤ → Bool → Type 0) (commands : List Fields) (left u' : ClientUpload) (s : Stepped) → u' ≡ record left { doing = doing_behind close s } → SteppedSent supply t W commands left.checked left.sent close s → CloseSaid supply t W commands u' (ended_by s)
+close_said supply t W commands left u' (steps.goes p) is h = subst (DoingOf supply t commands) (sym is) h
+close_said supply t W commands left u' (steps.waits p) is h = subst (DoingOf supply t commands) (sym is) h
+close_said supply t W commands left u' steps.done is h = h
+close_said supply t W commands left u' (steps.failed e) is h = h
 
 -- one that has not checked sent nothing
 first_said : (supply : Supply) (t : PutTask) (commands : List Fields) (checked : Bool) (sent : ℕ) → SentChunks supply t commands checked sent → PhaseSent supply t commands checked sent (if checked then fills else begins)
 first_said supply t commands true sent s = s
 first_said supply t commands false sent s = s.nothing refl
 
-module _ (supply : Supply) (t : PutTask) (old new : Awaited) (log log' : LogTold) (wire : ℤ) (ids : ℕ → List ℕ) (drawn : ℕ) (u u' : ClientUpload) (between : IsBetween u) (aim : u.aim ≡ put_aim t) (commands : List Fields) (so : DoingSent supply t commands u.checked u.sent u.doing) (supplied : DoingSupplied supply t ids u.sent u.doing) where
+module _ (supply : Supply) (t : PutTask) (old new : Awaited) (log log' : LogTold) (wire : ℤ) (ids : ℕ → List ℕ) (drawn : ℕ) (twelve : (k : ℕ) → length (ids k) ≡ 12) (u u' : ClientUpload) (between : IsBetween u) (aim : u.aim ≡ put_aim t) (commands : List Fields) (so : DoingSent supply t commands u.checked u.sent u.doing) (supplied : DoingSupplied supply t ids u.sent u.doing) (calls : List Call) (told : log ≡ Some calls) (places : List ℕ)
+    (under : IsUploading old (past_of places (length calls) calls wire) u) (stands : UploadStands t old (past_of places (length calls) calls wire) u) where
+  abbrev Before : Past
+  Before = past_of places (length calls) calls wire
+
+  -- why it fails
+  abbrev pub W : Error → ℕ → Option ℤ → Bool → Type 0
+  W = Reason places (length calls) wire log' supply t
+
+  all_since : length calls ≤ length calls
+  all_since = omega arith
+
+  under_at : (call : uploads.Call) (p : Phase) → u.doing ≡ busy call p → PhaseUnderway old Before u.aim p
+  under_at call p is = subst (UnderwayBy old Before u.aim) is under
+
+  stands_at : (call : uploads.Call) (p : Phase) → u.doing ≡ busy call p → PhaseStands t old Before p
+  stands_at call p is = subst (λ (d : Doing). AnswersPut t (error_by d) × PutReads old Before (put_bucket t) d) is stands
+
   abbrev pub Behind : (List Fields → Type 0) → Type 0
   Behind P = (more : List Fields) × AddsJust log log' more × P (commands ++ more)
 
@@ -81,12 +99,12 @@ module _ (supply : Supply) (t : PutTask) (old new : Awaited) (log log' : LogTold
   so_idle is = subst (DoingSent supply t commands u.checked u.sent) is so
 
   abbrev Driven : uploads.Call → Stepped → ClientUpload → Type 0
-  Driven call s left = Behind (λ l. SteppedSent supply t l left.checked left.sent call s)
+  Driven call s left = Behind (λ l. SteppedSent supply t W l left.checked left.sent call s)
 
   driven_so : (taken rest : List ℕ) → joined t.pieces ≡ taken ++ rest → (call : uploads.Call) → Fits call rest → (p : Phase) → u.doing ≡ busy call p → CutBy u taken (busy call p) → PutFlies supply t u.doing → (s : Stepped) → (d : Drives old new log log' wire ids drawn call u u' p s) → Driven call s d.left
   driven_so taken rest whole call fits p is cut flies s d =
       let sound = sound_on supply t old new log log' wire ids drawn u u' between aim call p is in
-      steps_order supply t taken rest whole call fits d.steps old new log log' wire ids drawn (at_work u) d.left p s commands aim (bounds_doing u idle between.sound.bounds) sound.0 sound.1 (phase_doing u idle taken p cut) (subst (PutFlies supply t) is flies) (so_at call p is) (subst (DoingSupplied supply t ids u.sent) is supplied) d.does
+      steps_order supply t taken rest whole call fits d.steps old new log log' wire ids drawn twelve (at_work u) d.left p s commands aim (bounds_doing u idle between.sound.bounds) sound.0 sound.1 (phase_doing u idle taken p cut) (subst (PutFlies supply t) is flies) (so_at call p is) (subst (DoingSupplied supply t ids u.sent) is supplied) calls told places (length calls) all_since (stands_at call p is) (under_at call p is) d.does
 
   -- ---- a write
 
@@ -104,23 +122,23 @@ module _ (supply : Supply) (t : PutTask) (old new : Awaited) (log log' : LogTold
     starts_so is s d =
         let v = at_work (with_bytes bytes u) in
         let taken_so = takes supply t old new log log' wire ids drawn u u' between aim bytes made there within doing cut flies is in
-        steps_order supply t Taken Rest parts (write (length bytes)) tt d.steps old new log log' wire ids drawn v d.left (first_phase u) s commands aim (bounds_doing (with_bytes bytes u) idle (bounds_bytes bytes u between.sound.bounds)) (begun_sound v u.checked refl)
-        (begun_writes (length bytes) u.checked) (first_cut v Taken u.checked (cut_doing (with_bytes bytes u) idle Taken 0 taken_so)) (first_flies supply t u.checked) (first_said supply t commands u.checked u.sent (so_idle is)) (first_supplied supply t ids u.sent u.checked (subst (DoingSupplied supply t ids u.sent) is supplied)) d.does
+        steps_order supply t Taken Rest parts (write (length bytes)) tt d.steps old new log log' wire ids drawn twelve v d.left (first_phase u) s commands aim (bounds_doing (with_bytes bytes u) idle (bounds_bytes bytes u between.sound.bounds)) (begun_sound v u.checked refl)
+        (begun_writes (length bytes) u.checked) (first_cut v Taken u.checked (cut_doing (with_bytes bytes u) idle Taken 0 taken_so)) (first_flies supply t u.checked) (first_said supply t commands u.checked u.sent (so_idle is)) (first_supplied supply t ids u.sent u.checked (subst (DoingSupplied supply t ids u.sent) is supplied)) calls told places (length calls) all_since (first_stands t old Before u.checked) (first_under old Before u.aim u.checked) d.does
 
     abbrev Written : WritePoll → Type 0
-    Written r = Behind (λ l. WriteSaid supply t l u' r)
+    Written r = Behind (λ l. WriteSaid supply t W l u' r)
 
     as_write : (r q : WritePoll) → r ≡ q → Written q → Written r
     as_write r q is h = subst Written (sym is) h
 
     write_driven : (piece : ℕ) (p : Phase) (v : ClientUpload) (s : Stepped) → (d : Drives old new log log' wire ids drawn (write piece) v u' p s) → Driven (write piece) s d.left → Written (wrote_by piece s)
-    write_driven piece p v s d h = (h.0, h.1, write_said supply t (commands ++ h.0) piece d.left u' s d.behind h.2)
+    write_driven piece p v s d h = (h.0, h.1, write_said supply t W (commands ++ h.0) piece d.left u' s d.behind h.2)
 
     pub write_order : (r : WritePoll) → Writes old new log log' wire ids drawn u u' bytes r → Written r
     write_order r (calls_of.refused refuses quiet is) = absurd (takes_write u.doing made (length t.pieces) doing within refuses)
-    write_order r (calls_of.not_taken rests_so quiet is) = as_write r (wrote.Failed (plain kind.OutOfMemory)) is (nothing_more (λ l. WriteSaid supply t l u' (wrote.Failed (plain kind.OutOfMemory))) quiet.quiet (false, chunks_any supply t commands u.checked u.sent (so_idle rests_so)))
+    write_order r (calls_of.not_taken rests_so quiet is) = as_write r (wrote.Failed (plain kind.OutOfMemory)) is (nothing_more (λ l. WriteSaid supply t W l u' (wrote.Failed (plain kind.OutOfMemory))) quiet.quiet (let x = chunks_at supply t commands u.checked u.sent (so_idle rests_so) in (false, (x.0, None, x.1), (calls, quiet.quiet.log_same ∙ told, put_sends.early refl (fails.not_taken refl) refl))))
     write_order r (calls_of.kept rests_so short quiet none is answer) =
-        as_write r (wrote.Wrote (length bytes)) answer (nothing_more (λ l. WriteSaid supply t l u' (wrote.Wrote (length bytes))) quiet (subst (DoingOf supply t commands) (sym is) so))
+        as_write r (wrote.Wrote (length bytes)) answer (nothing_more (λ l. WriteSaid supply t W l u' (wrote.Wrote (length bytes))) quiet (subst (DoingOf supply t commands) (sym is) so))
     write_order r (calls_of.starts rests_so full s drives answer) = as_write r (wrote_by (length bytes) s) answer (write_driven (length bytes) (first_phase u) (with_bytes bytes u) s drives (starts_so rests_so s drives))
     write_order r (calls_of.goes_on piece p is s drives answer) =
         as_write r (wrote_by piece s) answer (write_driven piece p u s drives (driven_so Taken Rest parts (write piece) tt p is (subst (λ (d : Doing). CutBy u (taken_in d t.pieces made) d) is cut) flies s drives))
@@ -132,16 +150,16 @@ module _ (supply : Supply) (t : PutTask) (old new : Awaited) (log log' : LogTold
     rests_so moment its is s d =
         let c : IsCutAt u (joined (take made t.pieces)) 0 = subst (λ (x : Doing). CutBy u (taken_in x t.pieces made) x) is cut in
         let whole : IsCutAt u (joined t.pieces) 0 = subst (λ (ps : List (List ℕ)). IsCutAt u (joined ps) 0) (take_all made t.pieces all) c in
-        steps_order supply t (joined t.pieces) [] (sym (append-nil (joined t.pieces))) close refl d.steps old new log log' wire ids drawn (at_work u) d.left (rests moment) s commands aim (bounds_doing u idle between.sound.bounds) (subst (SoundBy u) is between.sound.by) tt (cut_doing u idle (joined t.pieces) 0 whole) tt (so_idle is) (subst (DoingSupplied supply t ids u.sent) is supplied, its) d.does
+        steps_order supply t (joined t.pieces) [] (sym (append-nil (joined t.pieces))) close refl d.steps old new log log' wire ids drawn twelve (at_work u) d.left (rests moment) s commands aim (bounds_doing u idle between.sound.bounds) (subst (SoundBy u) is between.sound.by) tt (cut_doing u idle (joined t.pieces) 0 whole) tt (so_idle is) (subst (DoingSupplied supply t ids u.sent) is supplied, its) calls told places (length calls) all_since (tt, tt) tt d.does
 
     abbrev Closed : Step2 → Type 0
-    Closed r = Behind (λ l. CloseSaid supply t l u' r)
+    Closed r = Behind (λ l. CloseSaid supply t W l u' r)
 
     as_close : (r q : Step2) → r ≡ q → Closed q → Closed r
     as_close r q is h = subst Closed (sym is) h
 
     close_driven : (p : Phase) (s : Stepped) → (d : Drives old new log log' wire ids drawn close u u' p s) → Driven close s d.left → Closed (ended_by s)
-    close_driven p s d h = (h.0, h.1, close_said supply t (commands ++ h.0) d.left u' s d.behind h.2)
+    close_driven p s d h = (h.0, h.1, close_said supply t W (commands ++ h.0) d.left u' s d.behind h.2)
 
     pub close_order : (moment : ℤ) → IsMoment supply.moment moment → (r : Step2) → Closes old new log log' wire ids drawn moment u u' r → Closed r
     close_order moment its r (calls_of.refused refuses quiet is) = absurd (takes_close u.doing made (length t.pieces) doing refuses)
@@ -149,22 +167,3 @@ module _ (supply : Supply) (t : PutTask) (old new : Awaited) (log log' : LogTold
     close_order moment its r (calls_of.gives_up piece p is s drives answer) = absurd (no_write supply t old new log log' wire ids drawn u u' between aim made all doing cut flies piece p is)
     close_order moment its r (calls_of.goes_on p is s drives answer) =
         as_close r (ended_by s) answer (close_driven p s drives (driven_so (joined t.pieces) [] (sym (append-nil (joined t.pieces))) close refl p is (subst (λ (d : Doing). CutBy u (taken_in d t.pieces made) d) is cut) flies s drives))
-
--- ---- a turn
-
--- it tells the same of a log that others went on with
-pub said_kept : (calls calls' : List Call) (q : Places) (P : List Fields → Type 0) → Keeps calls calls' → PutSaid calls q P → PutSaid calls' q P
-said_kept calls calls' q P keeps s = record {
-  within = below_more (all_places q) (length calls) (length calls') (keeps_longer calls calls' keeps) s.within;
-  sends = subst P (sym (at_kept calls calls' keeps (all_places q) s.within)) s.sends;
-}
-
--- and behind a poll all that it sent by now
-pub said_more : (log log' : LogTold) (calls calls' : List Call) (q q' : Places) (P P' : List Fields → Type 0) → log ≡ Some calls → log' ≡ Some calls' → Keeps calls calls' → all_places q' ≡ sent_since (all_places q) (length calls) (length calls') → PutSaid calls q P
-    → ((more : List Fields) × AddsJust log log' more × P' (commands_at calls (all_places q) ++ more)) → PutSaid calls' q' P'
-said_more log log' calls calls' q q' P P' told told' keeps whole s h =
-    let within : AreInLog (length calls') (sent_since (all_places q) (length calls) (length calls')) = below_since (all_places q) (length calls) (length calls') (keeps_longer calls calls' keeps) s.within in
-    record {
-      within = subst (AreInLog (length calls')) (sym whole) within;
-      sends = subst P' (sym (ap (commands_at calls') whole ∙ at_sent log log' calls calls' (all_places q) h.0 told told' keeps s.within h.1)) h.2;
-    }

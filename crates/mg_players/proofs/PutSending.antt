@@ -10,6 +10,7 @@ use Rattle.mg_link.specs.Link.{Awaited, LogTold, SendsNothing}
 use Rattle.mg_link.specs.declared.action.Step.{Step}
 use Rattle.mg_link.specs.declared.action.Step.TheVariants as came
 use Rattle.mg_link.specs.declared.error.Error.{Error}
+use Rattle.mg_link.proofs.Chunking.{chunked_full}
 use Rattle.mg_options.specs.Fields.{fields_in}
 use Rattle.mg_gridfs.specs.Calls.{behind_call, doing_behind}
 use Rattle.mg_gridfs.specs.Checks as check
@@ -27,7 +28,7 @@ use Rattle.mg_players.specs.Sends as sends
 use Rattle.mg_players.specs.Sends.{FlightFlies, IsPutCommand, PhaseFlies, PutFlies}
 use Rattle.mg_players.proofs.PutChunks.{all_full, full_inserts, last_inserts}
 use Rattle.mg_players.proofs.PutSupplied.{step_supplied}
-use Rattle.mg_players.proofs.PutChecking.{AddsTold, LeftFlies, TurnFlies, check_sends, landing_sends, told_on, told_ran, told_same}
+use Rattle.mg_players.proofs.PutChecking.{AddsTold, LeftFlies, TurnFlies, check_sends, landing_sends, told_as, told_on, told_ran, told_same}
 
 -- ---- pieces
 
@@ -36,13 +37,21 @@ pub joined_total : (pieces : List (List ℕ)) → length (joined pieces) ≡ tot
 joined_total [] = refl
 joined_total (p ∷ ps) = length-append p (joined ps) ∙ ap (λ (n : ℕ). length p + n) (joined_total ps)
 
+-- a file with the bytes of one has one
+pub some_chunks : (t : PutTask) → 0 < t.chunk → t.chunk ≤ total t.pieces → 0 < length (file_chunks t)
+some_chunks t room full =
+    let all : List ℕ = joined t.pieces in
+    let long : t.chunk ≤ length all = subst (λ (n : ℕ). t.chunk ≤ n) (sym (joined_total t.pieces)) full in
+    let first : List ℕ = take t.chunk all in
+    let rest : List ℕ = drop t.chunk all in
+    let cut : file_chunks t ≡ first ∷ chunked t.chunk rest = ap (λ (l : List ℕ). chunked t.chunk l) (sym (take-append-drop t.chunk all)) ∙ chunked_full t.chunk first rest room (length-take-le t.chunk all long) in
+    subst (λ (cs : List (List ℕ)). 0 < length cs) (sym cut) (omega arith)
+
 -- ---- the check
 
 -- what it sends a put may send
 by_check_told : (supply : Supply) (t : PutTask) (log log' : LogTold) → AddsTold (IsCheckCommand (put_bucket t)) log log' → AddsTold (IsPutCommand supply t) log log'
-by_check_told supply t log log' adds calls told =
-    let x = adds calls told in
-    (x.0, x.1, record { keeps = x.2.keeps; added = λ place call behind there. sends.checks (x.2.added place call behind there) })
+by_check_told supply t log log' adds = told_as (IsCheckCommand (put_bucket t)) (IsPutCommand supply t) (λ command its. sends.checks its) log log' adds
 
 -- ---- one step
 

@@ -1,5 +1,5 @@
 -- What a put tells behind a poll of its upload.
-use Rattle.std.proofs.Common.{◌≡◌, ◌<◌, ◌≤◌, ◌+◌, ◌-◌, ◌++◌, ℕ, ℤ, List, [], ◌∷◌, length, length-append, take, Some, refl, sym, ap, ◌∙◌, subst, inl, inr}
+use Rattle.std.proofs.Common.{◌≡◌, ◌<◌, ◌≤◌, ◌+◌, ◌-◌, ◌++◌, Bool, ℕ, ℤ, List, [], ◌∷◌, length, length-append, take, Option, Some, refl, sym, ap, ◌∙◌, subst, inl, inr}
 use Rattle.std.specs.Prelude.{slice_get}
 use Rattle.mg_link.specs.Acts.{Tickets}
 use Rattle.mg_link.specs.Calls.{AddsOnly, Past, past_of}
@@ -27,17 +27,21 @@ use Rattle.mg_ops.specs.Drawn.{AreLater}
 use Rattle.mg_ops.specs.Logs.{AddsJust}
 use Rattle.mg_script.specs.declared.outcome.Ended.TheVariants as ended
 use Rattle.mg_players.specs.Causes.{commands_at, places_from, sent_at, sent_since}
+use Rattle.mg_players.specs.Laying.{DoingLays, EndLays, LaysAll}
 use Rattle.mg_players.specs.Plays.{Places, all_places}
 use Rattle.mg_players.specs.PutFailures.{AnswersPut, PutFails, PutReads}
-use Rattle.mg_players.specs.Puts.{CutBy, DoingSupplied, IsMoment, IsPutDoing, PutTask, Supply, joined, put_aim, put_bucket, taken_in}
+use Rattle.mg_players.specs.Puts.{CutBy, DoingSupplied, IsMoment, IsPutDoing, NamesFiles, PutTask, Supply, joined, put_aim, put_bucket, taken_in}
 use Rattle.mg_players.specs.Sends.{IsPutCommand}
-use Rattle.mg_players.specs.PutSends.{DoingSent, PutEndsSent}
+use Rattle.mg_players.specs.PutSends.{DoingSent, FailsSo, PutEndsSent}
 use Rattle.mg_players.specs.Telling.{PutSaid, PutTellsOpen}
-use Rattle.mg_players.proofs.PutOrdered.{CloseSaid, WriteSaid, close_order, said_more, write_order}
+use Rattle.mg_players.proofs.PutOrder.{Reason}
+use Rattle.mg_players.proofs.PutOrdered.{CloseSaid, WriteSaid, close_order, write_order}
+use Rattle.mg_players.proofs.PutSaying.{said_more}
 use Rattle.mg_players.proofs.PutFailed.{CloseEnds, WriteEnds, close_ends, write_ends}
+use Rattle.mg_players.proofs.PutLaid.{CloseLays, WriteLays, close_laid, doing_settles, laid_settles, names_of, write_laid}
 use Rattle.mg_players.proofs.PutPolled.{Ahead, AheadEnd, PollSent, close_sends, close_supplied, taken_on, taken_whole, takes_close, takes_write, write_sends, write_supplied}
 use Rattle.mg_players.proofs.PutSending.{Stands}
-use Rattle.mg_players.proofs.PutTelling.{cleared_settles, fails_on, reads_on, stored_settles, uploading_on}
+use Rattle.mg_players.proofs.PutTelling.{cleared_settles, fails_on, fails_so_on, reads_on, stored_settles, uploading_on}
 use Rattle.mg_players.proofs.Telling.{answered_by, going_on, grows_ended, in_first, is_since, since_is}
 use Rattle.mg_players.proofs.Whole.{whole_answered, whole_going}
 
@@ -72,9 +76,22 @@ module _ (t : PutTask) (old new : Awaited) (log log' : LogTold) (wire : ℤ) (u 
   fails_behind : (e : Error) → PutFails (past_of q.now From calls' wire) t e → PutFails (sent_at (sent_since q.now From Upto) calls' wire) t e
   fails_behind e fails = fails_on (past_of q.now From calls' wire) (sent_at (sent_since q.now From Upto) calls' wire) (grows_ended q.now From calls' wire) t e fails
 
+  -- and whether its chunks were removed then
+  so_behind : (supply : Supply) (e : Error) (upto : ℕ) (moment : Option ℤ) (removed : Bool) → Reason q.now From wire log' supply t e upto moment removed → FailsSo supply t (sent_at (sent_since q.now From Upto) calls' wire) e upto moment removed
+  so_behind supply e upto moment removed h =
+      fails_so_on (past_of q.now From calls' wire) (sent_at (sent_since q.now From Upto) calls' wire) (grows_ended q.now From calls' wire) supply t e upto moment removed
+      (as_told (λ (l : List Call). FailsSo supply t (past_of q.now From l wire) e upto moment removed) h.0 h.1 h.2)
+
   -- what it knows of the list that it reads
   reads_behind : PutReads new (past_of q.now From calls' wire) (put_bucket t) u'.doing → PutReads new (sent_at (sent_since q.now From Upto) calls' wire) (put_bucket t) u'.doing
   reads_behind h = reads_on (past_of q.now From calls' wire) (sent_at (sent_since q.now From Upto) calls' wire) (grows_ended q.now From calls' wire) new new (put_bucket t) u'.doing (λ m held. refl) h
+
+  -- what it knows of the step of its record
+  lays_behind : (q' : Places) → From ≤ Upto → all_places q' ≡ sent_since (all_places q) From Upto → DoingLays (past_of (all_places q) From calls' wire) t u'.doing → DoingLays (sent_at (all_places q') calls' wire) t u'.doing
+  lays_behind q' room whole h = doing_settles t calls calls' wire (all_places q) (all_places q') (settled_all q q' From Upto room whole) u'.doing h
+
+  ends_behind : (q' : Places) → From ≤ Upto → all_places q' ≡ sent_since (all_places q) From Upto → NamesFiles t → LaysAll (past_of (all_places q) From calls' wire) t → EndLays (sent_at (all_places q') calls' wire) t
+  ends_behind q' room whole named h = inr (named, laid_settles t calls calls' wire (all_places q) (all_places q') (settled_all q q' From Upto room whole) h)
 
   -- what the upload stored
   knows_behind : (q' : Places) (taken taken' : List ℕ) → From ≤ Upto → all_places q' ≡ sent_since (all_places q) From Upto → taken ≡ taken' → KnowsUpload new (past_of (all_places q) From calls' wire) t.at u' taken → KnowsUpload new (sent_at (all_places q') calls' wire) t.at u' taken'
@@ -153,15 +170,24 @@ module _ (supply : Supply) (t : PutTask) (ids later : ℕ → List ℕ) (old new
       let w = write_ends supply t old new log log' wire ids polled.drawn polled.twelve u u' between tells.aim_is calls told q.now tells.underway (tells.its, tells.reads) tells.supplied bytes made there within doing tells.cut tells.flies r polled.does in
       as_told t old new log log' wire u u' calls calls' told' q (λ (l : List Call). WriteEnds t new u' r (past_of q.now (length calls) l wire)) w.0 w.1 w.3
 
-  ordered : (more : List Fields) × AddsJust log log' more × WriteSaid supply t (commands_at calls (all_places q) ++ more) u' r
-  ordered = write_order supply t old new log log' wire ids polled.drawn u u' between tells.aim_is (commands_at calls (all_places q)) tells.said.sends tells.supplied bytes made there within doing tells.cut tells.flies r polled.does
+  abbrev Why : Error → ℕ → Option ℤ → Bool → Type 0
+  Why = Reason q.now (length calls) wire log' supply t
+
+  ordered : (more : List Fields) × AddsJust log log' more × WriteSaid supply t Why (commands_at calls (all_places q) ++ more) u' r
+  ordered = write_order supply t old new log log' wire ids polled.drawn polled.twelve u u' between tells.aim_is (commands_at calls (all_places q)) tells.said.sends tells.supplied calls told q.now tells.underway (tells.its, tells.reads) bytes made there within doing tells.cut tells.flies r polled.does
 
   -- so it has said behind it, by what it comes to
-  said_so : (q' : Places) → all_places q' ≡ sent_since (all_places q) (length calls) (length calls') → (x : WritePoll) → r ≡ x → PutSaid calls' q' (λ commands. WriteSaid supply t commands u' x)
-  said_so q' whole x is = subst (λ (y : WritePoll). PutSaid calls' q' (λ commands. WriteSaid supply t commands u' y)) is (said_more log log' calls calls' q q' (λ commands. DoingSent supply t commands u.checked u.sent u.doing) (λ commands. WriteSaid supply t commands u' r) told told' write_adds.keeps whole tells.said ordered)
+  said_so : (q' : Places) → all_places q' ≡ sent_since (all_places q) (length calls) (length calls') → (x : WritePoll) → r ≡ x → PutSaid calls' q' (λ commands. WriteSaid supply t Why commands u' x)
+  said_so q' whole x is = subst (λ (y : WritePoll). PutSaid calls' q' (λ commands. WriteSaid supply t Why commands u' y)) is (said_more log log' calls calls' q q' (λ commands. DoingSent supply t commands u.checked u.sent u.doing) (λ commands. WriteSaid supply t Why commands u' r) told told' write_adds.keeps whole tells.said ordered)
 
   taken_so : (d : Doing) (made' : ℕ) → taken_in d t.pieces made' ≡ joined (take (made + 1) t.pieces) → taken_by u.doing (taken_in u.doing t.pieces made) bytes ≡ taken_in d t.pieces made'
   taken_so d made' same = taken_on u.doing t.pieces made bytes doing within there ∙ sym same
+
+  named : NamesFiles t
+  named = names_of old (sent_at (all_places q) calls wire) t u (taken_in u.doing t.pieces made) tells.aim_is tells.knows
+
+  laid : WriteLays t u' r (past_of (all_places q) (length calls) calls' wire)
+  laid = write_laid supply t old new log log' wire ids polled.drawn u u' between tells.aim_is named tells.supplied calls told (all_places q) tells.lays bytes made there within doing tells.cut tells.flies r polled.does calls' told'
 
   -- it waits for a reply
   pub write_waits : r ≡ wrote.Pending → PutTellsOpen new calls' wire (going_on q (length calls) (length calls')) supply t later made u'
@@ -183,6 +209,7 @@ module _ (supply : Supply) (t : PutTask) (ids later : ℕ → List ℕ) (old new
         knows = knows_behind t old new log log' wire u u' calls calls' told' q (going_on q (length calls) (length calls')) (taken_by u.doing (taken_in u.doing t.pieces made) bytes) (taken_in u'.doing t.pieces made) write_room (whole_going q (length calls) (length calls')) (taken_so u'.doing made taken)
             (subst (AfterWrite new (past_of (all_places q) (length calls) calls' wire) t.at u u' (taken_in u.doing t.pieces made) bytes) is stored);
         said = said_so (going_on q (length calls) (length calls')) (whole_going q (length calls) (length calls')) wrote.Pending is;
+        lays = lays_behind t old new log log' wire u u' calls calls' told' q (going_on q (length calls) (length calls')) write_room (whole_going q (length calls) (length calls')) (subst (λ (x : WritePoll). WriteLays t u' x (past_of (all_places q) (length calls) calls' wire)) is laid);
       }
 
   -- one piece more is written
@@ -206,6 +233,7 @@ module _ (supply : Supply) (t : PutTask) (ids later : ℕ → List ℕ) (old new
         knows = knows_behind t old new log log' wire u u' calls calls' told' q (answered_by q (length calls) (length calls')) (taken_by u.doing (taken_in u.doing t.pieces made) bytes) (taken_in u'.doing t.pieces (made + 1)) write_room (whole_answered q (length calls) (length calls')) (taken_so u'.doing (made + 1) taken)
             (subst (AfterWrite new (past_of (all_places q) (length calls) calls' wire) t.at u u' (taken_in u.doing t.pieces made) bytes) is stored);
         said = said_so (answered_by q (length calls) (length calls')) (whole_answered q (length calls) (length calls')) (wrote.Wrote n) is;
+        lays = lays_behind t old new log log' wire u u' calls calls' told' q (answered_by q (length calls) (length calls')) write_room (whole_answered q (length calls) (length calls')) (subst (λ (x : WritePoll). WriteLays t u' x (past_of (all_places q) (length calls) calls' wire)) is laid);
       }
 
   -- it fails
@@ -224,8 +252,14 @@ module _ (supply : Supply) (t : PutTask) (ids later : ℕ → List ℕ) (old new
       cleared_by (sent_at (all_places q') calls' wire) t u e tells.aim_is (cleared_settles calls calls' wire (all_places q) (all_places q') t.at u e (settled_all q q' (length calls) (length calls') write_room (whole_going q (length calls) (length calls'))) h)
 
   -- and it sent its commands in their order
-  pub write_said : (e : Error) → r ≡ wrote.Failed e → PutSaid calls' (going_on q (length calls) (length calls')) (λ commands. PutEndsSent supply t commands (ended.Failed e))
-  write_said e is = said_so (going_on q (length calls) (length calls')) (whole_going q (length calls) (length calls')) (wrote.Failed e) is
+  pub write_said : (e : Error) → r ≡ wrote.Failed e → PutSaid calls' (going_on q (length calls) (length calls')) (λ commands. PutEndsSent supply t (sent_at (sent_since q.now (length calls) (length calls')) calls' wire) commands (ended.Failed e))
+  write_said e is =
+      let s = said_so (going_on q (length calls) (length calls')) (whole_going q (length calls) (length calls')) (wrote.Failed e) is in
+      record { within = s.within; sends = (s.sends.0, s.sends.1, so_behind t old new log log' wire u u' calls calls' told' q supply e s.sends.1.0 s.sends.1.1 s.sends.0 s.sends.2) }
+
+  -- and over all chunks only
+  pub write_lays : (e : Error) → r ≡ wrote.Failed e → EndLays (sent_at (all_places (going_on q (length calls) (length calls'))) calls' wire) t
+  write_lays e is = ends_behind t old new log log' wire u u' calls calls' told' q (going_on q (length calls) (length calls')) write_room (whole_going q (length calls) (length calls')) named (subst (λ (x : WritePoll). WriteLays t u' x (past_of (all_places q) (length calls) calls' wire)) is laid)
 
 -- ---- a close
 
@@ -268,17 +302,28 @@ module _ (supply : Supply) (t : PutTask) (ids later : ℕ → List ℕ) (moment 
       let w = close_ends supply t old new log log' wire ids polled.drawn polled.twelve u u' between tells.aim_is calls told q.now tells.underway (tells.its, tells.reads) tells.supplied made all doing tells.cut tells.flies moment its r polled.does in
       as_told t old new log log' wire u u' calls calls' told' q (λ (l : List Call). CloseEnds t new u' r (past_of q.now (length calls) l wire)) w.0 w.1 w.3
 
-  end_ordered : (more : List Fields) × AddsJust log log' more × CloseSaid supply t (commands_at calls (all_places q) ++ more) u' r
-  end_ordered = close_order supply t old new log log' wire ids polled.drawn u u' between tells.aim_is (commands_at calls (all_places q)) tells.said.sends tells.supplied made all doing tells.cut tells.flies moment its r polled.does
+  abbrev Reasons : Error → ℕ → Option ℤ → Bool → Type 0
+  Reasons = Reason q.now (length calls) wire log' supply t
 
-  end_said : (x : Step2) → r ≡ x → PutSaid calls' (going_on q (length calls) (length calls')) (λ commands. CloseSaid supply t commands u' x)
+  end_ordered : (more : List Fields) × AddsJust log log' more × CloseSaid supply t Reasons (commands_at calls (all_places q) ++ more) u' r
+  end_ordered = close_order supply t old new log log' wire ids polled.drawn polled.twelve u u' between tells.aim_is (commands_at calls (all_places q)) tells.said.sends tells.supplied calls told q.now tells.underway (tells.its, tells.reads) made all doing tells.cut tells.flies moment its r polled.does
+
+  end_said : (x : Step2) → r ≡ x → PutSaid calls' (going_on q (length calls) (length calls')) (λ commands. CloseSaid supply t Reasons commands u' x)
   end_said x is =
       let q' : Places = going_on q (length calls) (length calls') in
-      subst (λ (y : Step2). PutSaid calls' q' (λ commands. CloseSaid supply t commands u' y)) is
-      (said_more log log' calls calls' q q' (λ commands. DoingSent supply t commands u.checked u.sent u.doing) (λ commands. CloseSaid supply t commands u' r) told told' close_adds.keeps (whole_going q (length calls) (length calls')) tells.said end_ordered)
+      subst (λ (y : Step2). PutSaid calls' q' (λ commands. CloseSaid supply t Reasons commands u' y)) is
+      (said_more log log' calls calls' q q' (λ commands. DoingSent supply t commands u.checked u.sent u.doing) (λ commands. CloseSaid supply t Reasons commands u' r) told told' close_adds.keeps (whole_going q (length calls) (length calls')) tells.said end_ordered)
 
   end_taken : taken_in u.doing t.pieces made ≡ joined t.pieces
   end_taken = taken_whole u.doing t.pieces made doing all
+
+  end_named : NamesFiles t
+  end_named = names_of old (sent_at (all_places q) calls wire) t u (taken_in u.doing t.pieces made) tells.aim_is tells.knows
+
+  end_laid : CloseLays t u' r (past_of (all_places q) (length calls) calls' wire)
+  end_laid =
+      let knows : KnowsUpload old (sent_at (all_places q) calls wire) t.at u (joined t.pieces) = subst (KnowsUpload old (sent_at (all_places q) calls wire) t.at u) end_taken tells.knows in
+      close_laid supply t old new log log' wire ids polled.drawn u u' between tells.aim_is end_named tells.supplied calls told (all_places q) tells.lays made all doing tells.cut tells.flies knows moment its r polled.does calls' told'
 
   -- it waits for a reply
   pub close_waits : r ≡ end.Pending → PutTellsOpen new calls' wire (going_on q (length calls) (length calls')) supply t later made u'
@@ -300,6 +345,7 @@ module _ (supply : Supply) (t : PutTask) (ids later : ℕ → List ℕ) (moment 
         knows = knows_behind t old new log log' wire u u' calls calls' told' q (going_on q (length calls) (length calls')) (taken_in u.doing t.pieces made) (taken_in u'.doing t.pieces made) close_room (whole_going q (length calls) (length calls')) (end_taken ∙ sym taken)
             (subst (AfterClose new (past_of (all_places q) (length calls) calls' wire) t.at u u' (taken_in u.doing t.pieces made)) is end_stored);
         said = end_said end.Pending is;
+        lays = lays_behind t old new log log' wire u u' calls calls' told' q (going_on q (length calls) (length calls')) close_room (whole_going q (length calls) (length calls')) (subst (λ (x : Step2). CloseLays t u' x (past_of (all_places q) (length calls) calls' wire)) is end_laid);
       }
 
   -- the file is stored
@@ -327,8 +373,17 @@ module _ (supply : Supply) (t : PutTask) (ids later : ℕ → List ℕ) (moment 
       cleared_by (sent_at (all_places q') calls' wire) t u e tells.aim_is (cleared_settles calls calls' wire (all_places q) (all_places q') t.at u e (settled_all q q' (length calls) (length calls') close_room (whole_going q (length calls) (length calls'))) h)
 
   -- it sent its commands in their order
-  pub close_said_done : (n : ℕ) → r ≡ end.Done → PutSaid calls' (going_on q (length calls) (length calls')) (λ commands. PutEndsSent supply t commands (ended.Gave n))
+  pub close_said_done : (n : ℕ) → r ≡ end.Done → PutSaid calls' (going_on q (length calls) (length calls')) (λ commands. PutEndsSent supply t (sent_at (sent_since q.now (length calls) (length calls')) calls' wire) commands (ended.Gave n))
   close_said_done n is = end_said end.Done is
 
-  pub close_said_fails : (e : Error) → r ≡ end.Failed e → PutSaid calls' (going_on q (length calls) (length calls')) (λ commands. PutEndsSent supply t commands (ended.Failed e))
-  close_said_fails e is = end_said (end.Failed e) is
+  pub close_said_fails : (e : Error) → r ≡ end.Failed e → PutSaid calls' (going_on q (length calls) (length calls')) (λ commands. PutEndsSent supply t (sent_at (sent_since q.now (length calls) (length calls')) calls' wire) commands (ended.Failed e))
+  close_said_fails e is =
+      let s = end_said (end.Failed e) is in
+      record { within = s.within; sends = (s.sends.0, s.sends.1, so_behind t old new log log' wire u u' calls calls' told' q supply e s.sends.1.0 s.sends.1.1 s.sends.0 s.sends.2) }
+
+  -- and its record over all chunks only
+  pub close_lays_done : r ≡ end.Done → EndLays (sent_at (all_places (going_on q (length calls) (length calls'))) calls' wire) t
+  close_lays_done is = ends_behind t old new log log' wire u u' calls calls' told' q (going_on q (length calls) (length calls')) close_room (whole_going q (length calls) (length calls')) end_named (subst (λ (x : Step2). CloseLays t u' x (past_of (all_places q) (length calls) calls' wire)) is end_laid)
+
+  pub close_lays_fails : (e : Error) → r ≡ end.Failed e → EndLays (sent_at (all_places (going_on q (length calls) (length calls'))) calls' wire) t
+  close_lays_fails e is = ends_behind t old new log log' wire u u' calls calls' told' q (going_on q (length calls) (length calls')) close_room (whole_going q (length calls) (length calls')) end_named (subst (λ (x : Step2). CloseLays t u' x (past_of (all_places q) (length calls) calls' wire)) is end_laid)

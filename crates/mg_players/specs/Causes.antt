@@ -45,7 +45,7 @@ use Rattle.mg_ops.specs.InsertCauses.{InsertFails, InsertWaits}
 use Rattle.mg_ops.specs.InsertSends.{InsertPieces}
 use Rattle.mg_script.specs.Plan.{Begin, Task, insert, follow, put, get}
 use Rattle.mg_players.specs.Progress.{pends_last, turns_done}
-use Rattle.mg_players.specs.Reading.{HeardHeld, ListsOther, ReadStops}
+use Rattle.mg_players.specs.Reading.{HeardEmpty, HeardHeld, ListsOther, ReadStops}
 use Rattle.mg_script.specs.declared.outcome.Answer.{Answer}
 use Rattle.mg_script.specs.declared.outcome.Answer.TheVariants as answers
 use Rattle.mg_script.specs.declared.outcome.Ended.{Ended}
@@ -261,13 +261,13 @@ FollowCaused awaited c i count calls wire on start filter batch (ended.Failed e)
 
 -- ---- a get
 
--- An opening sent at these places just the find of the record, at most twice, and then, where a record was found, which it heard, that of the chunks of this
--- file, at most twice.
+-- An opening sent at these places just the find of the record, at most twice, and then, where a record of a file with bytes was found, which it heard, that of the
+-- chunks of this file, at most twice.
 pub record OpeningAsks (calls : List Call) (wire : ℤ) (g : GetTask) (found : Option FileRecord) (places : List ℕ) : Type 0 where
   pub finds : FallsAt (IsFindAt g found) calls 5 places 1
   pub heard : (f : FileRecord) → found ≡ Some f → HeardRecord (sent_at places calls wire) (get_bucket g.at) g.id (Some f)
 
--- its opening heard this record, and listed the chunks of no other file
+-- its opening heard this record, and listed the chunks of no other file, and none where it has no bytes
 pub record GetOpened (c : Course) (i : ℕ) (calls : List Call) (wire : ℤ) (g : GetTask) (f : FileRecord) : Type 0 where
   pub places : List ℕ
   pub sent : AllSentIn c i 0 places
@@ -289,15 +289,15 @@ pub record GetSent (c : Course) (i : ℕ) (calls : List Call) (g : GetTask) (byt
   pub more : AllAskOn calls (opened ++ (concat owns ++ now)) (concat owns ++ now)
   pub gave : GaveBy k bytes g.read
 
--- Why a read of the file with this record failed, by all that the get sent: its opening listed the chunks at this place, and what this cursor held as the call began
--- was heard.
-pub record GetStopped (c : Course) (i : ℕ) (calls : List Call) (wire : ℤ) (g : GetTask) (f : FileRecord) (cursor : ClientCursor) (e : Error) : Type 0 where
+-- Why a read of the file with this record failed, whose call sent at these places, by all that the get sent: its opening listed the chunks at this place, and what
+-- this cursor held as the call began was heard.
+pub record GetStopped (c : Course) (i : ℕ) (calls : List Call) (wire : ℤ) (g : GetTask) (f : FileRecord) (cursor : ClientCursor) (call : List ℕ) (e : Error) : Type 0 where
   pub places : List ℕ
   pub sent : AreSentIn c i places
   pub listed : ℕ
   pub by_opening : SentIn c i 0 listed
   pub held : HeardHeld (sent_at places calls wire) g f cursor
-  pub why : ReadStops (sent_at places calls wire) (ListsOther calls g.at f listed e) e
+  pub why : ReadStops (sent_at places calls wire) (HeardEmpty (sent_at places calls wire) (sent_at call calls wire) g f) (ListsOther calls g.at f listed e) e
 
 -- Why a get fails: memory ran out; a read is to have no room, and then it may send nothing; its opening fails, for which all was sent; or a read of the file whose
 -- record the opening heard, which asks for more chunks by its own cursor, without options, and behind which nothing was sent: that of the first turn that did not
@@ -307,7 +307,7 @@ pub data GetFails (c : Course) (i : ℕ) (calls : List Call) (wire : ℤ) (g : G
   has_no_room : g.read ≡ 0 → e ≡ no_room → GetFails c i calls wire g bytes e
   not_opened : 0 < g.read → (places : List ℕ) → AllSentIn c i 0 places → files.OpeningFails (sent_at places calls wire) (get_bucket g.at) g.id e → places ≡ places_of c i → GetFails c i calls wire g bytes e
   not_read : 0 < g.read → (d : ClientDownload) (opened : GetOpened c i calls wire g d.file) (k : ℕ) → suc (suc k) ≤ turns_done i c.order c.notes → (places : List ℕ) → AllSentIn c i (suc k) places → (cursor : ClientCursor) → ReadFails (sent_at places calls wire) d cursor e
-      → cursor_in d.doing ≡ Some cursor → IsSoundDownload d → AsksPlainly d → GetSent c i calls g bytes opened.places k places → GetStopped c i calls wire g d.file cursor e → GetFails c i calls wire g bytes e
+      → cursor_in d.doing ≡ Some cursor → IsSoundDownload d → AsksPlainly d → GetSent c i calls g bytes opened.places k places → GetStopped c i calls wire g d.file cursor places e → GetFails c i calls wire g bytes e
 
 -- What a get waits for: the record, or the list of the chunks of the record that was heard, for which all was sent; or more of them.
 pub data GetWaits (awaited : Awaited) (c : Course) (i : ℕ) (calls : List Call) (wire : ℤ) (g : GetTask) (bytes : ℕ) : Type 0 where
@@ -362,7 +362,7 @@ pub record PutEnds (awaited : Awaited) (c : Course) (i : ℕ) (calls : List Call
   pub waits : pends_last i c.order c.notes ≡ true → IsUnfinished end → PutWaits awaited (sent_at places calls wire) t
   pub written : HasWritten t (length owns) end
   -- these are its commands, in their order, with what it is supplied with
-  pub sends : PutEndsSent supply t (commands_at calls (places_of c i)) end
+  pub sends : PutEndsSent supply t (sent_at places calls wire) (commands_at calls (places_of c i)) end
 
 -- ---- all jobs
 

@@ -110,7 +110,7 @@ pub record FoundFirst (c : Course) (i : ℕ) (calls : List Call) (history : List
   pub more : List Fields
   pub stood : (file_of (state_of (take (suc opened) history)) b id).records ≡ first ∷ more
 
--- In this history job i found a record by one step of its own, the first that stood, and listed the chunks of its file by another. Those that stood there are not
+-- In this history job i found a record by one step of its own, the first that stood, and listed the chunks of its file by a later one. Those that stood there are not
 -- what the record says, as the error tells.
 pub record ReadsOther (c : Course) (i : ℕ) (calls : List Call) (history : List Step) (b : Bucket) (id : Tree) (e : Error) : Type 0 where
   pub found : FoundFirst c i calls history b id
@@ -119,6 +119,7 @@ pub record ReadsOther (c : Course) (i : ℕ) (calls : List Call) (history : List
   pub count : ℕ
   pub counted : chunk_count_of file.length file.chunk_size ≡ Ok count
   pub fetched : ℕ
+  pub later : found.opened < fetched
   pub listed_so : IsStepOf c i calls fetched
   pub lists : AsksAt history fetched (chunks_query (chunks_space b) file.id)
   pub differ : Differ file count (file_of (state_of (take (suc fetched) history)) b file.id).chunks e

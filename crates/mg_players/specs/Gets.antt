@@ -99,10 +99,10 @@ pub record AsksForMore (command : Fields) : Type 0 where
   pub space : Space
   pub asks_so : command ≡ more_chunks cursor space
 
--- asks for the chunks of the file of this record
+-- asks for the chunks of the file of this record, which has bytes
 abbrev pub IsListFor : GetTask → Option FileRecord → Fields → Type 0
 IsListFor g None command = ⊥
-IsListFor g (Some f) command = command ≡ chunks_find g f.id
+IsListFor g (Some f) command = (f.length ≢ 0) × (command ≡ chunks_find g f.id)
 
 -- The places of the finds of an opening, counted down: that of the record, once more, and then that of the chunks of the file whose record was found, once more.
 abbrev pub IsFindAt : GetTask → Option FileRecord → ℕ → Fields → Type 0

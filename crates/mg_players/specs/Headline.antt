@@ -11,6 +11,7 @@ use Rattle.mg_link.specs.Owner.{Owner, AreApart, NamesItsOwn, nobody}
 use Rattle.mg_link.specs.Standing.{Stands}
 use Rattle.mg_link.specs.State.{Start, Watch}
 use Rattle.mg_script.specs.Plan.{Task, begin, insert, follow, pieces, put, get}
+use Rattle.mg_players.specs.Behind.{WholeBehind}
 use Rattle.mg_players.specs.Causes.{Course, SentIn, course}
 use Rattle.mg_players.specs.Follows.{FollowKnows, Followed, FollowsNothing, HasNothing, IsUnfinished, IsWatch, NeverFollowed, WatchesNothing, events_of, filter_in, token_at}
 use Rattle.mg_players.specs.Files.{BlamesChunk, GaveFile, HasFoundBroken, HasReadAll, HasReadFront, HasReadOther, IsFirstStepOf, IsLastStepOf, NeverWhole, OthersLeaveFrom, LeftNoChunk, LeftWhole, SaysBroken}
@@ -182,11 +183,12 @@ GetGave c i calls g bytes ended.Unfinished = GaveFront c i calls g bytes × ((by
 GetGave c i calls g bytes (ended.Gave x) = GaveFile c i calls g.at g.id bytes × HasReadAll calls g.at g.id bytes
 GetGave c i calls g bytes (ended.Failed e) = (BlamesChunk e.kind → NeverWhole c i calls g.at g.id × HasReadOther c i calls g.at g.id e) × (SaysBroken e.kind → HasFoundBroken c i calls g.at g.id e)
 
--- a put that ended well left its file whole, and one that failed none of its chunks, unless its error may leave some
+-- A put that ended well left its file whole, and one that failed none of its chunks, unless its error may leave some. However it ended, the file is whole behind the
+-- step of its record, until a step of the put removes its chunks.
 abbrev pub PutLeft : Course → ℕ → List Call → PutTask → Ended ℕ → Type 0
-PutLeft c i calls t ended.Unfinished = Unit {0}
-PutLeft c i calls t (ended.Gave n) = LeftWhole c i calls t.at t.id (joined t.pieces) t.chunk
-PutLeft c i calls t (ended.Failed e) = (may_leave e.kind → ⊥) → LeftNoChunk c i calls t.at t.id
+PutLeft c i calls t ended.Unfinished = WholeBehind c i calls t
+PutLeft c i calls t (ended.Gave n) = LeftWhole c i calls t.at t.id (joined t.pieces) t.chunk × WholeBehind c i calls t
+PutLeft c i calls t (ended.Failed e) = ((may_leave e.kind → ⊥) → LeftNoChunk c i calls t.at t.id) × WholeBehind c i calls t
 
 -- what an outcome says of the file of its task
 abbrev pub OutcomeFiled : Course → ℕ → List Call → Task → Outcome → Type 0

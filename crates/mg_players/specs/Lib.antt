@@ -5,12 +5,17 @@ pub mod Counts
 pub mod Runs
 pub mod Follows
 pub mod Gets
+pub mod InTurn
 pub mod Reading
 pub mod Asking
 pub mod Puts
 pub mod PutFailures
+pub mod PutChecks
 pub mod PutSends
+pub mod Laying
 pub mod Files
+pub mod Behind
+pub mod Blaming
 pub mod Headline
 pub mod Progress
 pub mod Causes

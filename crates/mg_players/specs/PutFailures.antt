@@ -1,14 +1,13 @@
 -- Why a put fails whose upload was opened.
-use Rattle.std.specs.Prelude.{◌≡◌, ◌≢◌, ◌⊎◌, ◌<◌, ◌≤◌, ◌+◌, ◌*◌, ◌^◌, ℕ, pos, false, true, List, [], ◌∷◌, ◌++◌, length, Option, None, Some, Ok, unwrap_or}
+use Rattle.std.specs.Prelude.{◌≡◌, ◌≢◌, ◌⊎◌, ◌<◌, ◌≤◌, ◌+◌, ◌*◌, ◌^◌, ℕ, false, true, List, [], ◌∷◌, ◌++◌, length, Option, None, Some, Ok, unwrap_or}
 use Rattle.mg_bson.specs.Raw.{fields}
-use Rattle.mg_bson.specs.Tree.{Fields}
+use Rattle.mg_bson.specs.Tree.{Fields, no_items}
 use Rattle.mg_link.specs.Calls.{Flies, Grows, HeardAt, HeardBy, IsOwn, Past, RequestFails, past_of}
 use Rattle.mg_link.specs.Errors.{command_code, plain}
 use Rattle.mg_link.specs.Exec.{IsSuccess, Sending, ticket_of}
 use Rattle.mg_link.specs.Link.{Awaited}
 use Rattle.mg_link.specs.Log.{reply}
 use Rattle.mg_link.specs.Owner.{IsOf}
-use Rattle.mg_link.specs.Session.{Session}
 use Rattle.mg_link.specs.declared.error.Error.{Error}
 use Rattle.mg_link.specs.declared.error.ErrorKind.{ErrorKind}
 use Rattle.mg_link.specs.declared.error.ErrorKind.TheVariants as kind
@@ -20,26 +19,24 @@ use Rattle.mg_ops.specs.declared.cursor_reply.CursorSpecification.{CursorSpecifi
 use Rattle.mg_cursor.specs.Batches.{BreaksBatch, documents_of}
 use Rattle.mg_cursor.specs.Causes.{HeardMore, MoreFails, TellsNoCursor}
 use Rattle.mg_cursor.specs.Client as client
-use Rattle.mg_cursor.specs.Client.{ClientCursor, at_rest, behind_reply, get_more, holds, new_client}
+use Rattle.mg_cursor.specs.Client.{ClientCursor, at_rest, holds, new_client}
 use Rattle.mg_cursor.specs.Documents.{DocumentCursor}
 use Rattle.mg_cursor.specs.Polling.{CannotAsk}
+use Rattle.mg_cursor.specs.Seeking.{most_empty}
 use Rattle.mg_records.specs.Readings.{FailsToRead, recorded}
 use Rattle.mg_records.specs.Specifications.{index_of}
 use Rattle.mg_gridfs.specs.Buckets.{ClientBucket}
-use Rattle.mg_gridfs.specs.Causes.{ArePortion, HeardRemoved, IsCausedFirst, IsOfCheck, IsRest, ListsFailure, RemovalFails, UploadFails}
+use Rattle.mg_gridfs.specs.Causes.{ArePortion, HeardRemoved, IsRest, ListsFailure, RemovalFails, UploadFails}
 use Rattle.mg_gridfs.specs.Checks.{ClientCheck, creates, finds, indexes, lists, namespace_exists, reads}
 use Rattle.mg_gridfs.specs.Commands.{CannotSend, CannotStore, any_lines, chunk_document, chunks_lines, creation_lines, index_lines, listing_lines, record_lines}
 use Rattle.mg_gridfs.specs.Steps.{FailsToUndo}
 use Rattle.mg_gridfs.specs.Uploads.{Aim, Doing, Ending, Phase, begins, busy, checks, closed, ends, fills, idle, inserts, lands, lasts, record_of, records, removes, rests, undoes}
 use Rattle.mg_gridfs.specs.declared.indexes.Place.{Place}
+use Rattle.mg_gridfs.specs.declared.indexes.Place.TheVariants as place
+use Rattle.mg_players.specs.InTurn.{AreInTurn, empty_by, empty_taken, empty_with, newest}
 use Rattle.mg_players.specs.Puts.{PutTask, put_aim, put_bucket, total}
 
 -- ---- the list of the indexes
-
--- The call heard these replies to the getMores of a cursor, which left it so: each at its place in the log, behind that of the one before.
-abbrev pub AreInTurn : Past → ClientCursor → ℕ → List (ℕ × List ℕ) → ClientCursor → Type 0
-AreInTurn past c last [] c' = c' ≡ at_rest c
-AreInTurn past c last (h ∷ more) c' = (last < h.0) × (session : Option Session) × HeardAt past h.0 (get_more c session) (reply h.1) × IsSuccess h.1 × (said : Cursor) × (cursor_of (fields h.1) ≡ Ok said) × AreInTurn past (behind_reply said c) h.0 more c'
 
 -- The call opened this cursor by a list of the indexes of a collection, and heard these replies to its getMores, one behind another.
 pub record IsOfList (past : Past) (b : ClientBucket) (c : ClientCursor) : Type 0 where
@@ -53,11 +50,6 @@ pub record IsOfList (past : Past) (b : ClientBucket) (c : ClientCursor) : Type 0
   pub replies : List (ℕ × List ℕ)
   pub behind : AreInTurn past (new_client out) place replies (at_rest c)
 
--- the place of the newest
-abbrev pub newest : ℕ → List (ℕ × List ℕ) → ℕ
-newest last [] = last
-newest last (h ∷ more) = newest h.0 more
-
 -- how many documents a batch holds, and so many replies
 abbrev pub held_in : List ℕ → ℕ
 held_in bytes = length (unwrap_or (documents_of bytes) [])
@@ -70,6 +62,10 @@ held_by (h ∷ more) = held_in h.1 + held_by more
 abbrev pub brought : {past : Past} {b : ClientBucket} {c : ClientCursor} → IsOfList past b c → ℕ
 brought l = held_in l.first + held_by l.replies
 
+-- how many of these batches are empty at their end
+abbrev pub last_empty : {past : Past} {b : ClientBucket} {c : ClientCursor} → IsOfList past b c → ℕ
+last_empty l = empty_by (empty_with 0 (documents_of l.first)) l.replies
+
 -- the documents of the reply in hand
 abbrev pub in_hand : client.Doing → ℕ
 in_hand client.rests = 0
@@ -80,19 +76,6 @@ in_hand (client.asks sending) = 0
 pub data IsListBatch (past : Past) (b : ClientBucket) (bytes : List ℕ) : Type 0 where
   first_batch : (at : Place) → HeardBy past (fields_in (listing_lines b at)) (reply bytes) → IsSuccess bytes → IsListBatch past b bytes
   next_batch : (c : ClientCursor) → IsOfList past b c → HeardMore past c bytes → IsListBatch past b bytes
-
--- the cursor stands behind such a batch, as that told it
-pub record StandsBehind (past : Past) (b : ClientBucket) (c : ClientCursor) (bytes : List ℕ) : Type 0 where
-  pub batch : IsListBatch past b bytes
-  pub said : Cursor
-  pub says : cursor_of (fields bytes) ≡ Ok said
-  pub id_is : said.id ≡ c.id
-
--- which is empty
-pub record StandsBehindNone (past : Past) (b : ClientBucket) (c : ClientCursor) : Type 0 where
-  pub bytes : List ℕ
-  pub stands : StandsBehind past b c bytes
-  pub empty : documents_of bytes ≡ Some []
 
 -- the document stands in such a batch
 pub record IsListed (past : Past) (b : ClientBucket) (document : List ℕ) : Type 0 where
@@ -109,13 +92,15 @@ pub record AreListed (past : Past) (b : ClientBucket) (documents : List (List �
   pub front : List (List ℕ)
   pub holds : documents_of bytes ≡ Some (front ++ documents)
 
--- What the call knows of a list that it reads: which cursor it is, that the reply in hand told it, whence the documents that are left, and behind which reply
--- it stands where some came empty; that it was given so many of those that it heard; and that its getMore on its way stands in the log behind all replies.
+-- What the call knows of a list that it reads: which cursor it is, that the reply in hand is the first of it, and whence the documents that are left; how many
+-- batches in a row came empty, which are not too many; that it was given so many documents of those that it heard; and that its getMore on its way stands in the log
+-- behind all replies.
 pub record ReadsList (awaited : Awaited) (past : Past) (b : ClientBucket) (d : DocumentCursor) (count : ℕ) : Type 0 where
   pub of_list : IsOfList past b d.cursor
-  pub hand : (bytes : List ℕ) → d.cursor.doing ≡ holds bytes → StandsBehind past b d.cursor bytes × (d.empty ≡ 0)
-  pub left : (d.behind ≡ []) ⊎ AreListed past b d.behind
-  pub empties : (d.empty ≡ 0) ⊎ StandsBehindNone past b d.cursor
+  pub hand : (bytes : List ℕ) → d.cursor.doing ≡ holds bytes → (of_list.first ≡ bytes) × (of_list.replies ≡ [])
+  pub left : (d.behind ≡ []) ⊎ (AreListed past b d.behind × (d.empty ≡ 0))
+  pub empties : d.empty ≡ empty_taken d.cursor.doing (last_empty of_list)
+  pub few : d.empty < most_empty
   pub counted : count + (length d.behind + in_hand d.cursor.doing) ≡ brought of_list
   pub within : newest of_list.place of_list.replies < length past.calls
   pub waits : (sending : Sending) (ticket place : ℕ) → d.cursor.doing ≡ client.asks sending → ticket_of sending ≡ Some ticket → awaited ticket ≡ Some place → newest of_list.place of_list.replies < place
@@ -144,11 +129,40 @@ pub record AsksBehind (awaited : Awaited) (past : Past) (b : ClientBucket) (at :
   pub behind : (p : ℕ) → IsOf near p → created.place < p
   pub flies : Flies awaited (past_of near (length past.calls) past.calls past.wire) (fields_in (listing_lines b at)) sending.stage
 
+-- ---- what comes next in a check
+
+-- the call heard that the bucket holds no file
+pub record HeardNone (past : Past) (b : ClientBucket) : Type 0 where
+  pub bytes : List ℕ
+  pub heard : HeardBy past (fields_in (any_lines b)) (reply bytes)
+  pub said : Cursor
+  pub says : cursor_of (fields bytes) ≡ Ok said
+  pub none : said.batch ≡ no_items
+
+-- the call heard a list of the indexes of a collection
+abbrev pub HeardList : Past → ClientBucket → Place → Type 0
+HeardList past b at = (bytes : List ℕ) × HeardBy past (fields_in (listing_lines b at)) (reply bytes)
+
+-- the call heard what came of the creation of its index
+abbrev pub HeardIndex : Past → ClientBucket → Place → Type 0
+HeardIndex past b at = (bytes : List ℕ) × HeardBy past (fields_in (index_lines b at)) (reply bytes)
+
+-- The command that a check has to send next, by what its call heard: its find; the creation of the files, where the bucket holds no file; a list of indexes behind
+-- the creation of its collection; the creation of an index behind that list; and the creation of the chunks once the files have their index.
+pub data ComesNext (past : Past) (b : ClientBucket) (lines : List Line) : Type 0 where
+  the_find : lines ≡ any_lines b → ComesNext past b lines
+  the_files : HeardNone past b → lines ≡ creation_lines b place.Files → ComesNext past b lines
+  a_list : (at : Place) → HeardCreation past b at → lines ≡ listing_lines b at → ComesNext past b lines
+  an_index : (at : Place) → HeardList past b at → lines ≡ index_lines b at → ComesNext past b lines
+  the_chunks : HeardList past b place.Files ⊎ HeardIndex past b place.Files → lines ≡ creation_lines b place.Chunks → ComesNext past b lines
+
+-- ---- how far it has come
+
 abbrev pub CheckReads : Awaited → Past → ClientBucket → ClientCheck → Type 0
 CheckReads awaited past b (finds sending) = Unit {0}
 CheckReads awaited past b (creates at sending) = Unit {0}
 CheckReads awaited past b (lists at sending) = AsksBehind awaited past b at sending
-CheckReads awaited past b (reads at cursor found count) = ReadsList awaited past b cursor count
+CheckReads awaited past b (reads at cursor found count) = HeardList past b at × ReadsList awaited past b cursor count
 CheckReads awaited past b (indexes at sending) = Unit {0}
 
 -- ---- the check of the indexes
@@ -156,7 +170,7 @@ CheckReads awaited past b (indexes at sending) = Unit {0}
 -- why it fails
 pub data PutCheckFails (past : Past) (b : ClientBucket) (e : Error) : Type 0 where
   out_of_memory : e.kind ≡ kind.OutOfMemory → PutCheckFails past b e
-  not_built : (lines : List Line) → IsOfCheck b lines → CannotSend lines e → PutCheckFails past b e
+  not_built : (lines : List Line) → ComesNext past b lines → CannotSend lines e → PutCheckFails past b e
   by_find : RequestFails past (fields_in (any_lines b)) true TellsNoCursor e → PutCheckFails past b e
   -- that a collection is there is no failure
   by_creation : (at : Place) → RequestFails past (fields_in (creation_lines b at)) false ListsFailure e → command_code e.kind ≢ Some namespace_exists → PutCheckFails past b e
@@ -166,9 +180,9 @@ pub data PutCheckFails (past : Past) (b : ClientBucket) (e : Error) : Type 0 whe
   -- a getMore of the list is not built, or fails
   not_asked : (c : ClientCursor) → IsOfList past b c → CannotAsk c None e → PutCheckFails past b e
   by_more : (c : ClientCursor) → IsOfList past b c → MoreFails past c e → PutCheckFails past b e
-  -- a batch of it holds what is no document; or one came empty behind another
+  -- a batch of it holds what is no document; or as many came empty, one behind another, as are too many
   broken : (bytes : List ℕ) → IsListBatch past b bytes → BreaksBatch bytes e → PutCheckFails past b e
-  stays_empty : (c : ClientCursor) → StandsBehindNone past b c → c.id ≢ pos 0 → e ≡ plain kind.EmptyBatches → PutCheckFails past b e
+  stays_empty : (c : ClientCursor) (l : IsOfList past b c) → last_empty l ≡ most_empty → e ≡ plain kind.EmptyBatches → PutCheckFails past b e
   -- an item of it is no index
   no_index : (document : List ℕ) → IsListed past b document → FailsToRead (recorded (index_of (fields document))) e → PutCheckFails past b e
   -- or it has too many
@@ -176,9 +190,9 @@ pub data PutCheckFails (past : Past) (b : ClientBucket) (e : Error) : Type 0 whe
 
 -- ---- errors of a put
 
--- the pieces have the bytes of so many chunks, and no file has more
+-- the pieces have more bytes than so many chunks, and no file has more chunks
 abbrev pub HasManyChunks : PutTask → Type 0
-HasManyChunks t = 2 ^ 31 * t.chunk ≤ total t.pieces
+HasManyChunks t = 2 ^ 31 * t.chunk < total t.pieces
 
 -- Something that has to be stored is not built: full chunks of one command, or one of them, the last chunk, or the record. The id of a chunk has twelve bytes.
 pub data NotBuilt (aim : Aim) (e : Error) : Type 0 where
@@ -223,13 +237,28 @@ PutReads awaited past b idle = Unit {0}
 PutReads awaited past b (busy call phase) = PhaseReads awaited past b phase
 PutReads awaited past b closed = Unit {0}
 
+-- ---- why a put failed
+
+-- why the last call of its upload failed where no chunk was to be removed
+pub data FailsEarly (past : Past) (t : PutTask) (e : Error) : Type 0 where
+  -- before the first chunk
+  check_fails : PutCheckFails past (put_bucket t) e → FailsEarly past t e
+  -- memory ran out as the bytes of a piece were taken
+  not_taken : e ≡ plain kind.OutOfMemory → FailsEarly past t e
+
+-- An insert of its chunks or of its record was not built or failed with this error, or its chunks were too many: they are to be removed.
+pub record FailsFirst (past : Past) (t : PutTask) (original : Error) : Type 0 where
+  pub by_upload : UploadFails past (put_aim t) original
+  pub of_put : IsPutError t original
+
+-- what it answers then
+pub data AnswersFirst (past : Past) (t : PutTask) (original e : Error) : Type 0 where
+  -- the chunks were removed
+  first_error : HeardRemoved past (put_aim t) → e ≡ original → AnswersFirst past t original e
+  -- they were not
+  not_removed : (d : Error) → RemovalFails past (put_aim t) d → FailsToUndo (Some original) d e → AnswersFirst past t original e
+
 -- why the last call of its upload failed
 pub data PutFails (past : Past) (t : PutTask) (e : Error) : Type 0 where
-  -- before the first chunk
-  check_fails : PutCheckFails past (put_bucket t) e → PutFails past t e
-  -- memory ran out as the bytes of a piece were taken
-  not_taken : e ≡ plain kind.OutOfMemory → PutFails past t e
-  -- the chunks were removed, and this was the first error
-  first_error : UploadFails past (put_aim t) e → IsPutError t e → HeardRemoved past (put_aim t) → PutFails past t e
-  -- they were not
-  not_removed : (original : Option Error) (d : Error) → IsCausedFirst past (put_aim t) original → RemovalFails past (put_aim t) d → FailsToUndo original d e → PutFails past t e
+  early : FailsEarly past t e → PutFails past t e
+  late : (original : Error) → FailsFirst past t original → AnswersFirst past t original e → PutFails past t e

@@ -1,20 +1,28 @@
 -- The commands of a put, in their order.
-use Rattle.std.specs.Prelude.{◌≡◌, ◌≢◌, ◌⊎◌, ◌<◌, ◌≤◌, ◌+◌, ◌++◌, ℕ, ℤ, Bool, true, false, List, [], ◌∷◌, length, Option, Some, None}
+use Rattle.std.specs.Prelude.{◌≡◌, ◌⊎◌, ◌<◌, ◌≤◌, ◌+◌, ◌++◌, ℕ, ℤ, Bool, true, false, List, [], ◌∷◌, length, Option, Some, None}
 use Rattle.mg_bson.specs.Raw.{fields}
 use Rattle.mg_bson.specs.Tree.{Fields}
+use Rattle.mg_link.specs.Calls.{Past}
+use Rattle.mg_link.specs.Errors.{plain}
 use Rattle.mg_link.specs.Exec.{Stage, unsent, first, second}
 use Rattle.mg_link.specs.Files.{chunked}
 use Rattle.mg_link.specs.Namespace.{Space}
+use Rattle.mg_link.specs.declared.error.Error.{Error}
+use Rattle.mg_link.specs.declared.error.ErrorKind.TheVariants as kind
 use Rattle.mg_options.specs.Fields.{Line, fields_in}
 use Rattle.mg_ops.specs.Cursors.{next_command}
+use Rattle.mg_ops.specs.Failing.{CannotBeSent}
+use Rattle.mg_ops.specs.InsertCauses.{FitTogether}
+use Rattle.mg_ops.specs.Limits.{max_documents}
 use Rattle.mg_gridfs.specs.Buckets.{ClientBucket}
 use Rattle.mg_gridfs.specs.Causes.{IsOfCheck}
-use Rattle.mg_gridfs.specs.Checks.{ClientCheck, creates, finds, indexes, lists, reads}
-use Rattle.mg_gridfs.specs.Commands.{chunk_documents, chunks_lines, deletion_lines, record_document, record_lines}
+use Rattle.mg_gridfs.specs.Commands.{CannotStore, chunk_documents, chunks_lines, deletion_lines, record_document, record_lines}
 use Rattle.mg_gridfs.specs.Uploads as uploads
 use Rattle.mg_gridfs.specs.Uploads.{Doing, Phase, begins, busy, closed, ends, fills, idle, lands, lasts, rests, undoes}
 use Rattle.mg_players.specs.Gets.{no_manner}
-use Rattle.mg_players.specs.Puts.{ComeNext, IsMoment, PutTask, Supply, joined, put_bucket, total}
+use Rattle.mg_players.specs.PutChecks.{CheckPasses, CheckSentAt, CheckSends}
+use Rattle.mg_players.specs.PutFailures.{AnswersFirst, FailsEarly, FailsFirst, HasManyChunks, IsCommonKind, check_fails, not_taken}
+use Rattle.mg_players.specs.Puts.{CannotOpen, ComeNext, IsMoment, PutTask, Supply, joined, put_bucket, total}
 use Rattle.mg_script.specs.declared.outcome.Ended.{Ended}
 use Rattle.mg_script.specs.declared.outcome.Ended.TheVariants as ended
 
@@ -24,10 +32,6 @@ use Rattle.mg_script.specs.declared.outcome.Ended.TheVariants as ended
 pub data IsCheckCommand (b : ClientBucket) (command : Fields) : Type 0 where
   of_check : (lines : List Line) → IsOfCheck b lines → command ≡ fields_in lines → IsCheckCommand b command
   reads_on : (id : ℤ) (space : Space) → command ≡ next_command id space no_manner → IsCheckCommand b command
-
-abbrev pub AreOfCheck : ClientBucket → List Fields → Type 0
-AreOfCheck b [] = Unit {0}
-AreOfCheck b (command ∷ commands) = IsCheckCommand b command × AreOfCheck b commands
 
 -- ---- the chunks
 
@@ -55,9 +59,12 @@ ChunkPieces supply t from (command ∷ commands) upto = (between : ℕ) × Inser
 
 -- ---- the record, and the removal
 
--- inserts the record of the file, with a moment
+-- the record of the file, with a moment, and what inserts it
+abbrev pub its_record : PutTask → ℤ → Fields
+its_record t moment = record_document t.id (total t.pieces) t.chunk moment t.name None
+
 abbrev pub record_insert : PutTask → ℤ → Fields
-record_insert t moment = fields_in (record_lines (put_bucket t) (record_document t.id (total t.pieces) t.chunk moment t.name None))
+record_insert t moment = fields_in (record_lines (put_bucket t) (its_record t moment))
 
 -- removes all chunks of the file
 abbrev pub chunks_removal : PutTask → Fields
@@ -75,16 +82,16 @@ removal_if t true = chunks_removal t ∷ []
 
 -- ---- all commands
 
--- These are all commands that a put sent: first the check of its bucket's indexes, which comes before the chunks of a file that has a full one; then its chunks up
--- to this number, from the first one on, each once and with its own id; then its record with this moment, which is that of the run, once, and only behind all
+-- These are all commands that a put sent: first the check of its bucket's indexes, in its order, which was sent whole before the chunks of a file that has a full one, and
+-- before their removal; then its chunks up to this number, from the first one on, each once and with its own id; then its record with this moment, which is that of the run, once, and only behind all
 -- chunks; then the removal of its chunks, once.
 pub record PutSends (supply : Supply) (t : PutTask) (commands : List Fields) (upto : ℕ) (moment : Option ℤ) (removed : Bool) : Type 0 where
   pub check : List Fields
   pub chunks : List Fields
   pub parts : commands ≡ check ++ (chunks ++ (record_at t moment ++ removal_if t removed))
-  pub of_check : AreOfCheck (put_bucket t) check
+  pub of_check : CheckSends (put_bucket t) check
   pub pieces : ChunkPieces supply t 0 chunks upto
-  pub checked : 0 < upto → t.chunk ≤ total t.pieces → check ≢ []
+  pub checked : (0 < upto) ⊎ (removed ≡ true) → t.chunk ≤ total t.pieces → CheckPasses (put_bucket t) check
   pub recorded : (m : ℤ) → moment ≡ Some m → upto ≡ length (file_chunks t)
   pub timely : (m : ℤ) → moment ≡ Some m → IsMoment supply.moment m
 
@@ -92,11 +99,58 @@ pub record PutSends (supply : Supply) (t : PutTask) (commands : List Fields) (up
 abbrev pub SentSome : Supply → PutTask → List Fields → Bool → Type 0
 SentSome supply t commands removed = (upto : ℕ) × (moment : Option ℤ) × PutSends supply t commands upto moment removed
 
--- Where it ended well it sent all chunks and its record, and removed nothing.
-abbrev pub PutEndsSent : Supply → PutTask → List Fields → Ended ℕ → Type 0
-PutEndsSent supply t commands ended.Unfinished = (removed : Bool) × SentSome supply t commands removed
-PutEndsSent supply t commands (ended.Gave n) = (moment : ℤ) × PutSends supply t commands (length (file_chunks t)) (Some moment) false
-PutEndsSent supply t commands (ended.Failed e) = (removed : Bool) × SentSome supply t commands removed
+-- ---- why it failed
+
+-- the documents are the next chunks of the file behind so many, at least one and no more than a command holds, each with its own number and with the id of that number
+pub record AreNextChunks (supply : Supply) (t : PutTask) (from : ℕ) (documents : List Fields) : Type 0 where
+  pub front : List (List ℕ)
+  pub piece : List (List ℕ)
+  pub rest : List (List ℕ)
+  pub parts : file_chunks t ≡ front ++ (piece ++ rest)
+  pub behind : length front ≡ from
+  pub some : 0 < length piece
+  pub few : length piece ≤ max_documents
+  pub ids : ℕ → List ℕ
+  pub drawn : ComeNext supply t ids from
+  pub these : documents ≡ chunk_documents ids 0 t.id from piece
+
+-- What a put has to send next behind so many chunks is not built: the next chunks, as many as fit into a command, or one of them alone, or the record behind all of them.
+pub data NextNotBuilt (supply : Supply) (t : PutTask) (upto : ℕ) (e : Error) : Type 0 where
+  next_chunks : (documents : List Fields) → AreNextChunks supply t upto documents → FitTogether documents → CannotStore (chunks_lines (put_bucket t) documents) documents e → NextNotBuilt supply t upto e
+  next_chunk : (document : Fields) → AreNextChunks supply t upto (document ∷ []) → CannotBeSent document e → NextNotBuilt supply t upto e
+  the_record : upto ≡ length (file_chunks t) → (moment : ℤ) → IsMoment supply.moment moment → CannotStore (record_lines (put_bucket t) (its_record t moment)) (its_record t moment ∷ []) e → NextNotBuilt supply t upto e
+
+-- a first error behind what was sent: where it says that something is not built, that is what comes next; and chunks are too many only where the pieces have as many bytes
+abbrev pub IsErrorBehind : Supply → PutTask → ℕ → Option ℤ → Error → Type 0
+IsErrorBehind supply t upto moment e = IsCommonKind e.kind ⊎ (((moment ≡ None) × NextNotBuilt supply t upto e) ⊎ ((e ≡ plain kind.FileTooLarge) × HasManyChunks t))
+
+-- it sent some, for such a reason where it removed its chunks or did not
+abbrev pub SentFor : Supply → PutTask → List Fields → (ℕ → Option ℤ → Bool → Type 0) → Type 0
+SentFor supply t commands Why = (removed : Bool) × (sent : SentSome supply t commands removed) × Why sent.0 sent.1 removed
+
+-- a check is over before any chunk is sent; memory for the bytes of a piece may run out behind some, but before the record
+abbrev pub SentBefore : {past : Past} {t : PutTask} {e : Error} → FailsEarly past t e → ℕ → Option ℤ → Type 0
+SentBefore (check_fails failed) upto moment = (upto ≡ 0) × (moment ≡ None)
+SentBefore (not_taken is) upto moment = moment ≡ None
+
+-- why a put failed that sent its chunks up to this number, its record or not, and removed its chunks or did not
+pub data FailsSo (supply : Supply) (t : PutTask) (past : Past) (e : Error) (upto : ℕ) (moment : Option ℤ) (removed : Bool) : Type 0 where
+  -- its upload was not opened
+  not_opened : removed ≡ false → CannotOpen t e → FailsSo supply t past e upto moment removed
+  -- no chunk was to be removed, and none was
+  early : removed ≡ false → (failed : FailsEarly past t e) → SentBefore failed upto moment → FailsSo supply t past e upto moment removed
+  -- an insert had failed, or its chunks were too many: a removal is sent, unless memory runs out or it is not built
+  late : (original : Error) → FailsFirst past t original → IsErrorBehind supply t upto moment original → AnswersFirst past t original e → FailsSo supply t past e upto moment removed
+
+-- one that has not ended has removed its chunks only for such a first error
+abbrev pub StopsSo : Supply → PutTask → Past → ℕ → Option ℤ → Bool → Type 0
+StopsSo supply t past upto moment removed = removed ≡ true → (original : Error) × FailsFirst past t original × IsErrorBehind supply t upto moment original
+
+-- where it ended well it sent all chunks and its record, and removed nothing
+abbrev pub PutEndsSent : Supply → PutTask → Past → List Fields → Ended ℕ → Type 0
+PutEndsSent supply t past commands ended.Unfinished = SentFor supply t commands (StopsSo supply t past)
+PutEndsSent supply t past commands (ended.Gave n) = (moment : ℤ) × PutSends supply t commands (length (file_chunks t)) (Some moment) false
+PutEndsSent supply t past commands (ended.Failed e) = SentFor supply t commands (FailsSo supply t past e)
 
 -- ---- while it goes on
 
@@ -111,9 +165,9 @@ pub record SentChunks (supply : Supply) (t : PutTask) (commands : List Fields) (
   pub check : List Fields
   pub chunks : List Fields
   pub parts : commands ≡ check ++ chunks
-  pub of_check : AreOfCheck (put_bucket t) check
+  pub of_check : CheckSends (put_bucket t) check
   pub pieces : ChunkPieces supply t 0 chunks upto
-  pub some : checked ≡ true → check ≢ []
+  pub passed : checked ≡ true → CheckPasses (put_bucket t) check
   pub nothing : checked ≡ false → commands ≡ []
 
 -- all its chunks, and its record or not
@@ -124,18 +178,23 @@ SentAll supply t commands moment = PutSends supply t commands (length (file_chun
 abbrev pub NeedsNoCheck : PutTask → Bool → Type 0
 NeedsNoCheck t checked = (checked ≡ true) ⊎ (total t.pieces < t.chunk)
 
--- its check has begun, unless the first command is sent next
-abbrev pub HasBegun : List Fields → ClientCheck → Type 0
-HasBegun commands (finds sending) = (sending.stage ≡ unsent) ⊎ (commands ≢ [])
-HasBegun commands (creates at sending) = commands ≢ []
-HasBegun commands (lists at sending) = commands ≢ []
-HasBegun commands (reads at cursor found count) = commands ≢ []
-HasBegun commands (indexes at sending) = commands ≢ []
+-- there is an error in hand, and it is a first one behind what was sent
+abbrev pub HoldsError : Supply → PutTask → ℕ → Option ℤ → Option Error → Type 0
+HoldsError supply t upto moment None = ⊥
+HoldsError supply t upto moment (Some original) = IsErrorBehind supply t upto moment original
+
+-- it sent some, and is on the way back with this error, behind the check of a file that has a full chunk
+pub record SentUntil (supply : Supply) (t : PutTask) (commands : List Fields) (error : Option Error) (removed : Bool) : Type 0 where
+  pub upto : ℕ
+  pub moment : Option ℤ
+  pub sends : PutSends supply t commands upto moment removed
+  pub behind : t.chunk ≤ total t.pieces → CheckPasses (put_bucket t) sends.check
+  pub holds : HoldsError supply t upto moment error
 
 -- what it sent, by how far a call has come, where it checked or not and so many of its chunks are inserted: a put gives up no call
 abbrev pub PhaseSent : Supply → PutTask → List Fields → Bool → ℕ → Phase → Type 0
 PhaseSent supply t commands checked sent begins = commands ≡ []
-PhaseSent supply t commands checked sent (uploads.checks check) = AreOfCheck (put_bucket t) commands × HasBegun commands check
+PhaseSent supply t commands checked sent (uploads.checks check) = CheckSentAt (put_bucket t) commands check
 PhaseSent supply t commands checked sent fills = SentChunks supply t commands true sent
 PhaseSent supply t commands checked sent (uploads.inserts sending count) = InsertsChunks supply t sent (sent + count) (fields sending.command) × Around sending.stage (SentChunks supply t commands true sent) (SentChunks supply t commands true (sent + count))
 PhaseSent supply t commands checked sent (rests moment) = SentChunks supply t commands checked sent
@@ -143,8 +202,8 @@ PhaseSent supply t commands checked sent (lasts sending ending) = InsertsChunks 
 PhaseSent supply t commands checked sent (ends ending) = SentAll supply t commands None
 PhaseSent supply t commands checked sent (uploads.records sending ending) = (fields sending.command ≡ record_insert t ending.moment) × Around sending.stage (SentAll supply t commands None) (SentAll supply t commands (Some ending.moment))
 PhaseSent supply t commands checked sent (lands flight error) = ⊥
-PhaseSent supply t commands checked sent (undoes error) = SentSome supply t commands false
-PhaseSent supply t commands checked sent (uploads.removes sending error) = (fields sending.command ≡ chunks_removal t) × Around sending.stage (SentSome supply t commands false) (SentSome supply t commands true)
+PhaseSent supply t commands checked sent (undoes error) = SentUntil supply t commands error false
+PhaseSent supply t commands checked sent (uploads.removes sending error) = (fields sending.command ≡ chunks_removal t) × Around sending.stage (SentUntil supply t commands error false) (SentUntil supply t commands error true)
 
 -- what it sent by what its upload is doing
 abbrev pub DoingSent : Supply → PutTask → List Fields → Bool → ℕ → Doing → Type 0

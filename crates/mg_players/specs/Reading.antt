@@ -1,13 +1,14 @@
 -- Why a read of a get fails: by chunks that are not what their record says, and by what does not come where its own steps were answered at once.
-use Rattle.std.specs.Prelude.{◌≡◌, ◌≢◌, ◌≤◌, ◌++◌, Contains, ℕ, suc, ℤ, pos, List, ◌∷◌, length, Some, None, Ok, Err, slice_get, take}
+use Rattle.std.specs.Prelude.{◌≡◌, ◌≢◌, ◌<◌, ◌≤◌, ◌++◌, Contains, ℕ, suc, ℤ, pos, List, [], ◌∷◌, length, Some, None, Ok, Err, slice_get, take}
 use Rattle.mg_bson.specs.Raw.{fields}
 use Rattle.mg_bson.specs.Tree.{Fields}
 use Rattle.mg_link.specs.Calls.{HeardBy, IsOwn, Past}
 use Rattle.mg_link.specs.Commands.{Asked, asked, asks_query}
-use Rattle.mg_link.specs.Exec.{IsSuccess}
+use Rattle.mg_link.specs.Exec.{IsSuccess, Sending, ticket_of}
 use Rattle.mg_link.specs.Errors.{plain}
 use Rattle.mg_link.specs.Files.{Bucket, chunks_space, file_of}
 use Rattle.mg_link.specs.History.{IsLegal, Step, state_of, told_at}
+use Rattle.mg_link.specs.Link.{Awaited}
 use Rattle.mg_link.specs.Log.{Call, reply}
 use Rattle.mg_link.specs.Prompt.{IsPrompt}
 use Rattle.mg_link.specs.Query.{Query}
@@ -17,13 +18,15 @@ use Rattle.mg_link.specs.declared.error.ErrorKind.TheVariants as kind
 use Rattle.mg_ops.specs.Cursors.{Cursor, cursor_of}
 use Rattle.mg_ops.specs.Naming.{IsNamed}
 use Rattle.mg_cursor.specs.Causes.{MoreFails}
-use Rattle.mg_cursor.specs.Client.{ClientCursor, holds}
+use Rattle.mg_cursor.specs.Client as client
+use Rattle.mg_cursor.specs.Client.{ClientCursor, at_rest, holds}
 use Rattle.mg_cursor.specs.Polling.{CannotAsk}
 use Rattle.mg_records.specs.FileRecords.{FileRecord, chunk_count_of}
 use Rattle.mg_gridfs.specs.Downloaded.{AreReceived, chunks_query}
-use Rattle.mg_gridfs.specs.Downloads.{ClientDownload, Doing, ended, idle, judged, missing_chunk, reads, spoiled}
+use Rattle.mg_gridfs.specs.Downloads.{ClientDownload, Doing, ended, idle, judged, missing_chunk, most_empty, reads, spoiled}
 use Rattle.mg_gridfs.specs.ReadCauses.{cursor_in}
 use Rattle.mg_players.specs.Gets.{GetTask, chunks_find, no_manner}
+use Rattle.mg_players.specs.InTurn.{AreInTurn, empty_by, empty_held, empty_taken, newest}
 
 -- ---- chunks that are not what their record says
 
@@ -111,13 +114,43 @@ ListsIts past g d = (c : ClientCursor) → cursor_in d.doing ≡ Some c → IsLi
 abbrev pub HeardHeld : Past → GetTask → FileRecord → ClientCursor → Type 0
 HeardHeld past g f c = (bytes : List ℕ) → c.doing ≡ holds bytes → HeardBy past (chunks_find g f.id) (reply bytes)
 
+-- ---- batches that came empty
+
+-- In a call of a get as many batches came empty, one behind another, as are too many: those of replies that the call heard to its getMores, and before them that of
+-- a first reply to the list of the chunks, which was in hand.
+pub record HeardEmpty (past call : Past) (g : GetTask) (f : FileRecord) : Type 0 where
+  pub begun : ClientCursor
+  pub held : HeardHeld past g f begun
+  pub replies : List (ℕ × List ℕ)
+  pub behind : ClientCursor
+  pub heard : AreInTurn call begun 0 replies behind
+  pub so_many : empty_by (empty_held begun.doing) replies ≡ most_empty
+
+-- What a call knows of them that began with a cursor and goes on: so many came empty, one behind another, which are not too many; and its getMore on its way stands in the log
+-- behind all replies.
+pub record CountsRow (awaited : Awaited) (call : Past) (begun c : ClientCursor) (empty : ℕ) : Type 0 where
+  pub replies : List (ℕ × List ℕ)
+  pub heard : AreInTurn call begun 0 replies (at_rest c)
+  pub hand : (bytes : List ℕ) → c.doing ≡ holds bytes → (begun.doing ≡ holds bytes) × (replies ≡ [])
+  pub counted : empty ≡ empty_taken c.doing (empty_by (empty_held begun.doing) replies)
+  pub few : empty < most_empty
+  pub within : newest 0 replies < length call.calls
+  pub waits : (sending : Sending) (ticket place : ℕ) → c.doing ≡ client.asks sending → ticket_of sending ≡ Some ticket → awaited ticket ≡ Some place → newest 0 replies < place
+
+-- where a read goes on
+abbrev pub CountsIn : Awaited → (past call : Past) → GetTask → FileRecord → Doing → Type 0
+CountsIn awaited past call g f (idle cursor) = Unit {0}
+CountsIn awaited past call g f (reads cursor missing empty) = (begun : ClientCursor) × HeardHeld past g f begun × CountsRow awaited call begun cursor empty
+CountsIn awaited past call g f ended = Unit {0}
+CountsIn awaited past call g f spoiled = Unit {0}
+
 -- ---- why a read fails
 
--- Why a read fails: memory ran out; a getMore is not built, or brings no batch; a batch is one empty one too many, which does not come where the steps were
+-- Why a read fails: memory ran out; a getMore is not built, or brings no batch; as many batches came empty as are too many, which is not so where the steps were
 -- answered at once; or chunks that stood are not what their record says.
-pub data ReadStops (past : Past) (differ : Type 0) (e : Error) : Type 0 where
-  no_memory : e.kind ≡ kind.OutOfMemory → ReadStops past differ e
-  not_built : (at : ClientCursor) → IsTold past at → CannotAsk at None e → ReadStops past differ e
-  no_batch : (at : ClientCursor) → IsTold past at → MoreFails past at e → ReadStops past differ e
-  too_many : WherePrompt past ⊥ → e ≡ plain kind.EmptyBatches → ReadStops past differ e
-  differs : differ → ReadStops past differ e
+pub data ReadStops (past : Past) (many differ : Type 0) (e : Error) : Type 0 where
+  no_memory : e.kind ≡ kind.OutOfMemory → ReadStops past many differ e
+  not_built : (at : ClientCursor) → IsTold past at → CannotAsk at None e → ReadStops past many differ e
+  no_batch : (at : ClientCursor) → IsTold past at → MoreFails past at e → ReadStops past many differ e
+  too_many : many → WherePrompt past ⊥ → e ≡ plain kind.EmptyBatches → ReadStops past many differ e
+  differs : differ → ReadStops past many differ e

@@ -46,6 +46,7 @@ use Rattle.mg_script.specs.Plan.{Task, begin}
 use Rattle.mg_ops.specs.Drawn.{with_ids}
 use Rattle.mg_players.specs.Drawing.{first_id, sent_documents, sent_from, supply_from}
 use Rattle.mg_players.specs.Kept.{ids_left}
+use Rattle.mg_players.specs.Laying.{DoingLays, EndLays}
 use Rattle.mg_players.specs.Owned.{AllOwn}
 use Rattle.mg_players.specs.Playing.{job_ticket}
 use Rattle.mg_players.specs.Plays as words
@@ -53,7 +54,7 @@ use Rattle.mg_players.specs.Plays.{Extends, Moves, MovesTo, Places, all_places}
 use Rattle.mg_players.specs.PutFailures.{AnswersPut, PutReads}
 use Rattle.mg_players.specs.PutSends.{DoingSent, PutEndsSent}
 use Rattle.mg_players.specs.Puts.{BegunFor, CutBy, DoingSupplied, PutTask, Supply, put_aim, put_bucket, taken_in, total, writes}
-use Rattle.mg_players.specs.Reading.{HeardHeld, ListsIts, ListsOther, ReadStops}
+use Rattle.mg_players.specs.Reading.{CountsIn, HeardEmpty, HeardHeld, ListsIts, ListsOther, ReadStops}
 use Rattle.mg_players.specs.Sends.{IsCommandOf, MaySend, PutFlies, SendsOnly}
 use Rattle.mg_ops.specs.Underway.{HasInserted}
 use Rattle.mg_script.specs.declared.outcome.Answer.{Answer}
@@ -260,7 +261,7 @@ pub data TellsGetFails (calls : List Call) (wire : ℤ) (q : Places) (g : GetTas
   not_opened : 0 < g.read → TellsNoCall q → done ≡ 0 → files.OpeningFails (sent_at q.now calls wire) (get_bucket g.at) g.id e → TellsGetFails calls wire q g done e
   not_read : 0 < g.read → 1 ≤ done → (d : ClientDownload) (at : Option ℕ) → TellsGetOpened calls wire q g d.file at → (cursor : ClientCursor) → ReadFails (sent_at q.now calls wire) d cursor e
       → cursor_in d.doing ≡ Some cursor → IsSoundDownload d → AsksPlainly d → suc (length q.owns) ≡ done
-      → (listed : ℕ) → IsOf q.opened listed → HeardHeld (sent_at (all_places q) calls wire) g d.file cursor → ReadStops (sent_at (all_places q) calls wire) (ListsOther calls g.at d.file listed e) e → TellsGetFails calls wire q g done e
+      → (listed : ℕ) → IsOf q.opened listed → HeardHeld (sent_at (all_places q) calls wire) g d.file cursor → ReadStops (sent_at (all_places q) calls wire) (HeardEmpty (sent_at (all_places q) calls wire) (sent_at q.now calls wire) g d.file) (ListsOther calls g.at d.file listed e) e → TellsGetFails calls wire q g done e
 
 abbrev pub TellsGetEnd : {A : Type 0} → List Call → ℤ → Places → GetTask → ℕ → Option ℕ → Ended A → Type 0
 TellsGetEnd calls wire q g done at ended.Unfinished = Unit {0}
@@ -272,6 +273,7 @@ abbrev pub GetTells : Awaited → List Call → ℤ → Places → GetTask → G
 GetTells awaited calls wire q g gets.Unsent done at = TellsNoCall q × (q.now ≡ [])
 GetTells awaited calls wire q g (gets.Opens opening) done at = TellsNoCall q × IsOpeningFor g (finding_of opening) × IsSoundFinding (finding_of opening) × files.IsOpening awaited (sent_at q.now calls wire) (finding_of opening) × FindsSoFar calls g q.now (finding_of opening).doing × FindingLast awaited (λ (n : ℕ). IsOf q.now n) (finding_of opening).doing
 GetTells awaited calls wire q g (gets.Reads download room) done at = TellsGetOpened calls wire q g (download_of download).file at × (suc (length q.owns) ≡ done) × IsFetching awaited (sent_at q.now calls wire) (download_of download) × IsDownload download × AsksPlainly (download_of download) × ListsIts (sent_at (all_places q) calls wire) g (download_of download) × DownloadLast awaited calls (λ (n : ℕ). IsOf (all_places q) n) (download_of download)
+    × CountsIn awaited (sent_at (all_places q) calls wire) (sent_at q.now calls wire) g (download_of download).file (download_of download).doing
 GetTells awaited calls wire q g (gets.Ended end) done at = TellsGetEnd calls wire q g done at end
 
 -- what a get tells behind a turn, and whether it sent what it may
@@ -300,7 +302,7 @@ pub record PutSaid (calls : List Call) (q : Places) (sent : List Fields → Type
   pub sends : sent (commands_at calls (all_places q))
 
 -- a put whose upload is open: each piece that is written was written by a call of its own, its call that goes on has sent what stands at the places of that and
--- has such a command on its way, and its upload knows what it stored; what it draws ids from has those that are left
+-- has such a command on its way, and its upload knows what it stored; what it draws ids from has those that are left; where its record was sent, all chunks stood
 pub record PutTellsOpen (awaited : Awaited) (calls : List Call) (wire : ℤ) (q : Places) (supply : Supply) (t : PutTask) (ids : ℕ → List ℕ) (done : ℕ) (u : ClientUpload) : Type 0 where
   pub aim_is : u.aim ≡ put_aim t
   pub sized : IsSize t.chunk
@@ -314,6 +316,7 @@ pub record PutTellsOpen (awaited : Awaited) (calls : List Call) (wire : ℤ) (q 
   pub reads : PutReads awaited (sent_at q.now calls wire) (put_bucket t) u.doing
   pub knows : KnowsUpload awaited (sent_at (all_places q) calls wire) t.at u (taken_in u.doing t.pieces done)
   pub said : PutSaid calls q (λ commands. DoingSent supply t commands u.checked u.sent u.doing)
+  pub lays : DoingLays (sent_at (all_places q) calls wire) t u.doing
 
 -- it has sent nothing
 abbrev pub SentNothing : Places → Type 0
@@ -324,7 +327,7 @@ abbrev pub PutTells : Awaited → List Call → ℤ → Places → Supply → Pu
 PutTells awaited calls wire q supply t done puts.Undrawn = SentNothing q × (done ≡ 0)
 PutTells awaited calls wire q supply t done (puts.Begins begun) = SentNothing q × (done ≡ 0) × BegunFor supply t begun
 PutTells awaited calls wire q supply t done (puts.Goes going) = PutTellsOpen awaited calls wire q supply t (ids_left going.ids) done (upload_of going.upload) × (going.length ≡ total t.pieces)
-PutTells awaited calls wire q supply t done (puts.Ended end) = (q.opened ≡ []) × (length q.owns ≡ done) × PutEndsBy (sent_at (all_places q) calls wire) (sent_at q.now calls wire) t end × HasWritten t done end × PutSaid calls q (λ commands. PutEndsSent supply t commands end)
+PutTells awaited calls wire q supply t done (puts.Ended end) = (q.opened ≡ []) × (length q.owns ≡ done) × PutEndsBy (sent_at (all_places q) calls wire) (sent_at q.now calls wire) t end × HasWritten t done end × PutSaid calls q (λ commands. PutEndsSent supply t (sent_at q.now calls wire) commands end) × EndLays (sent_at (all_places q) calls wire) t
 
 -- the number of what goes on: how many turns that did not pend come before it
 abbrev pub put_number : ℕ → PutStage → ℕ

@@ -21,6 +21,7 @@ use Rattle.mg_jobs.specs.Completing.{JobWell}
 use Rattle.mg_players.specs.Counts.{AreNoted, StartedBy}
 use Rattle.mg_jobs.specs.Fated.{AreItsSteps}
 use Rattle.mg_players.specs.Progress.{AllPlayed, IsPlayed, pends_last, turns_done}
+use Rattle.mg_players.specs.Blaming.{GetsBehind}
 use Rattle.mg_players.specs.Causes.{AllPollOwn, AllWaitAlone, Course, OutcomeCaused, course}
 use Rattle.mg_players.specs.Drawing.{as_sent, supplied, supply_of}
 use Rattle.mg_players.specs.Headline.{OutcomeFiled, OutcomeFollowed}
@@ -126,6 +127,12 @@ returns-clause-followed g c =
     let names = c.in_ok-played.ensures.names [] begins in
     subst (λ (l : List Call). NamesNoOthers l (course [] script.order.items notes) i) (same_some names.0 f.0 (sym names.1 ∙ f.1))
     (subst (λ (o : List ℕ). NamesNoOthers names.0 (course [] o notes) i) c.as_slice-2.ensures.value (names.2 i)) in
+    let behind_is : GetsBehind here f.0 (tasks script.jobs.items) c.in_ok-played.played.outcomes.items =
+    let behind = c.in_ok-played.ensures.behind [] begins in
+    let outcomes = c.in_ok-played.played.outcomes.items in
+    subst (λ (l : List Call). GetsBehind (course [] script.order.items notes) l (tasks script.jobs.items) outcomes) (same_some behind.0 f.0 (sym behind.1 ∙ f.1))
+    (subst (λ (js : List Job). GetsBehind (course [] script.order.items notes) behind.0 (tasks js) outcomes) jobs
+    (subst (λ (o : List ℕ). GetsBehind (course [] o notes) behind.0 (tasks c.as_slice.result.now) outcomes) c.as_slice-2.ensures.value behind.2)) in
     let outcomes_is : length c.in_ok-played.played.outcomes.items ≡ length (tasks script.jobs.items) = c.in_ok-played.ensures.outcomes ∙ ap length jobs ∙ sym (tasks_counted script.jobs.items) in
     record {
       calls = f.0;
@@ -140,6 +147,7 @@ returns-clause-followed g c =
           let filed = c.in_ok-played.ensures.filed [] begins in
           subst (λ (l : List Call). OutcomeFiled (course [] c.args.script.order.items notes) i l t r) (same_some filed.0 f.0 (sym filed.1 ∙ f.1))
           (subst (λ (o : List ℕ). OutcomeFiled (course [] o notes) i filed.0 t r) c.as_slice-2.ensures.value (filed.2 i t r (ap (λ l. slice_get (tasks l) i) jobs ∙ ht) hr));
+      behind = behind_is;
       own = own_is;
       turns = c.in_ok-played.played.turns;
       turns_are = c.in_ok-turns.ensures.items;

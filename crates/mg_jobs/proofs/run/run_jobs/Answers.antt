@@ -6,6 +6,7 @@ use Rattle.std.proofs.lemmas.List.{length-map}
 use Rattle.mg_script.specs.Plan.{task, tasks}
 use Rattle.mg_players.proofs.Knowing.{knowing_first}
 use Rattle.mg_players.proofs.Advancing.{rows_so}
+use Rattle.mg_jobs.proofs.Blaming.{behind_so}
 use Rattle.mg_jobs.proofs.Completing.{well_so}
 use Rattle.mg_players.specs.Drawing.{supplied}
 use Rattle.mg_players.proofs.Drawing.{drawn_first, drawn_so}
@@ -116,6 +117,11 @@ returns-clause-names g c =
     let first = drawn_first (g.I.IdSource.ids c.args.ids.now) (tasks c.args.jobs.now) c.in_ok-runner.runner.players.items jobs c.in_ok-runner.ensures.first in
     names_so (supplied (g.I.IdSource.ids c.args.ids.now) c.args.moment.millis) _ _ _ _ (tasks c.args.jobs.now) c.args.order.now c.play.new.runner.turns.items c.play.new.runner.players.items c.into_played.result c.into_played.ensures.turns
     (c.in_ok-play.ensures.told (supplied (g.I.IdSource.ids c.args.ids.now) c.args.moment.millis) (g.L.Link.log c.args.link.now) (tasks c.args.jobs.now) refl c.in_ok-runner.ensures.tasks c.in_ok-runner.ensures.at first (tell_first _ _ _ _ (tasks c.args.jobs.now) c.in_ok-runner.runner.players.items c.in_ok-runner.ensures.first))
+
+pub returns-clause-behind : goal.returns-clause-behind
+returns-clause-behind g c =
+    behind_so (supplied (g.I.IdSource.ids c.args.ids.now) c.args.moment.millis) _ _ _ _ (tasks c.args.jobs.now) c.args.order.now c.into_played.result (length c.play.new.runner.players.items)
+    (c.play.ensures.jobs ∙ c.in_ok-runner.ensures.jobs ∙ sym (length-map c.args.jobs.now task)) c.into_played.ensures.outcomes (returns-clause-caused g c) (returns-clause-filed g c) (returns-clause-sends g c)
 
 pub returns-clause-complete : goal.returns-clause-complete
 returns-clause-complete g c = λ prompt. well_so (supplied (g.I.IdSource.ids c.args.ids.now) c.args.moment.millis) _ _ _ _ (tasks c.args.jobs.now) c.args.order.now c.into_played.result (c.in_ok-play.ensures.lossless prompt) (returns-clause-caused g c) (returns-clause-rows g c) (returns-clause-filed g c) (returns-clause-sends g c)

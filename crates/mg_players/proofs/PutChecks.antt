@@ -1,0 +1,440 @@
+-- The check of a put sends its commands in their order.
+use Rattle.std.proofs.Common.{◌≡◌, ◌≢◌, ◌⊎◌, ◌≤◌, ◌+◌, ◌&&◌, ℕ, suc, ℤ, Bool, true, false, List, [], ◌∷◌, ◌++◌, Option, Some, None, replicate, refl, sym, ap, ap₂, ◌∙◌, subst, inl, inr, arith, append-nil, append_assoc}
+use Rattle.std.proofs.lemmas.List.{map-append, replicate-append-replicate}
+use Rattle.std.specs.Prelude.{slice_get}
+use Rattle.mg_bson.specs.Raw.{fields}
+use Rattle.mg_bson.specs.Tree.{Fields}
+use Rattle.mg_link.specs.Calls.{AddsOnly}
+use Rattle.mg_link.specs.Errors.{command_code, plain}
+use Rattle.mg_link.specs.Exec.{Attempt, AttemptFails, AttemptGives, Begins, GoesOn, Runs, Sending, Stage, Tries, answered, first, holding, is_repeated, is_retried_attempt, not_sent, second, unsent, waits}
+use Rattle.mg_link.specs.Link.{Adds, Awaited, LogTold, Sees}
+use Rattle.mg_link.specs.Log.{Call, Sight, reply, see, waiting}
+use Rattle.mg_link.specs.declared.action.Step.{Step}
+use Rattle.mg_link.specs.declared.action.Step.TheVariants as came
+use Rattle.mg_link.specs.declared.error.Error.{Error}
+use Rattle.mg_link.specs.declared.error.ErrorKind.TheVariants as kind
+use Rattle.mg_link.proofs.Owners.{same_some}
+use Rattle.mg_options.specs.Fields.{Line}
+use Rattle.mg_ops.specs.Logs.{AddsJust, commands_sent}
+use Rattle.mg_ops.proofs.Logs.{commands_seen, just_none, just_on}
+use Rattle.mg_cursor.specs.Client.{new_client}
+use Rattle.mg_cursor.specs.Documents.{DocumentCursor, new_documents}
+use Rattle.mg_cursor.specs.declared.polls.AdvancePoll.{AdvancePoll}
+use Rattle.mg_cursor.specs.declared.polls.AdvancePoll.TheVariants as advance
+use Rattle.mg_gridfs.specs.Buckets.{ClientBucket}
+use Rattle.mg_gridfs.specs.Checks as check
+use Rattle.mg_gridfs.specs.Checks.{Builds, CheckTurned, ChecksOn, ClientCheck, Creates, EndsList, GoesBehind, HearsAdvance, HearsAny, HearsCreation, HearsFind, HearsIndex, HearsIndexed, HearsList, HearsListing, IsSoundCheck, Looks, by_advance, by_creation, by_find, by_index, by_listing, creates, finds, indexes, lists, namespace_exists, reads}
+use Rattle.mg_gridfs.specs.declared.indexes.Place.{Place}
+use Rattle.mg_gridfs.specs.declared.indexes.Place.TheVariants as place
+use Rattle.mg_players.specs.PutChecks.{AreGetMores, CheckPasses, CheckSends, CheckSentAt, IsGetMore, SendsBefore, SendsBehind, SendsCreation, SendsFind, SendsIndex, SendsList, AsksForList, SendsPart, SendsWhole, any_find, count_at, creation, index_creation, listing, most_often, to_creation, to_find, to_index, to_listing, to_part}
+use Rattle.mg_players.specs.Sends.{CheckFlies}
+use Rattle.mg_players.proofs.PutChecking.{AddsTold, seeks_send}
+
+-- ---- how often a command is sent
+
+-- so often an attempt sends it
+abbrev pub count_of : Attempt → ℕ
+count_of not_sent = 0
+count_of (waits ticket) = 1
+count_of (answered seen) = 1
+
+-- and so often it was sent behind that
+abbrev pub count_behind : Bool → Stage → Attempt → ℕ
+count_behind again unsent attempt = count_of attempt
+count_behind again (first ticket) attempt = 1
+count_behind again (second ticket) attempt = most_often again
+
+once_at_most : (attempt : Attempt) → count_of attempt ≤ 1
+once_at_most not_sent = omega arith
+once_at_most (waits ticket) = omega arith
+once_at_most (answered seen) = omega arith
+
+once_may : (again : Bool) → 1 ≤ most_often again
+once_may true = omega arith
+once_may false = omega arith
+
+most_at : (again : Bool) (stage : Stage) → count_at again stage ≤ most_often again
+most_at again unsent = omega arith
+most_at again (first ticket) = once_may again
+most_at again (second ticket) = omega arith
+
+few_behind : (again : Bool) (stage : Stage) (attempt : Attempt) → count_behind again stage attempt ≤ most_often again
+few_behind again unsent attempt =
+    let one = once_at_most attempt in
+    let most = once_may again in
+    let few : count_of attempt ≤ most_often again = omega (arith, one, most) in
+    few
+few_behind again (first ticket) attempt = once_may again
+few_behind again (second ticket) attempt = omega arith
+
+some_behind : (again : Bool) (stage : Stage) (attempt : Attempt) → attempt ≢ not_sent → 1 ≤ count_behind again stage attempt
+some_behind again unsent not_sent some = absurd (some refl)
+some_behind again unsent (waits ticket) some = omega arith
+some_behind again unsent (answered seen) some = omega arith
+some_behind again (first ticket) attempt some = omega arith
+some_behind again (second ticket) attempt some = once_may again
+
+-- it waits as often as it was sent
+held_behind : (again : Bool) (stage : Stage) (ticket : ℕ) → count_behind again stage (waits ticket) ≡ count_at again (holding stage ticket)
+held_behind again unsent ticket = refl
+held_behind again (first old) ticket = refl
+held_behind again (second old) ticket = refl
+
+reply_sent : (attempt : Attempt) (bytes : List ℕ) → attempt ≡ answered (reply bytes) → attempt ≢ not_sent
+reply_sent attempt bytes is none = let bad : answered (reply bytes) ≡ not_sent = sym is ∙ none in absurd cc
+
+-- what fails and was not sent is want of memory
+failed_behind : (again : Bool) (stage : Stage) (attempt : Attempt) (wire : ℤ) (e : Error) → AttemptFails attempt wire e → (1 ≤ count_behind again stage attempt) ⊎ (e ≡ plain kind.OutOfMemory)
+failed_behind again stage not_sent wire e h = inr h
+failed_behind again stage (waits ticket) wire e h = absurd h
+failed_behind again stage (answered seen) wire e h = inl (some_behind again stage (answered seen) (λ bad. absurd cc))
+
+is_retry : (again : Bool) (attempt : Attempt) → again && is_retried_attempt attempt ≡ true → (again ≡ true) × (count_of attempt ≡ 1)
+is_retry false attempt is = (let bad : false ≡ true = is in absurd cc)
+is_retry true not_sent is = (let bad : false ≡ true = is in absurd cc)
+is_retry true (waits ticket) is = (let bad : false ≡ true = is in absurd cc)
+is_retry true (answered seen) is = (refl, refl)
+
+-- what is sent once more is a read, and was sent once
+repeated_once : (again : Bool) (stage : Stage) (attempt : Attempt) → is_repeated again stage attempt ≡ true → (again ≡ true) × (count_behind again stage attempt ≡ 1)
+repeated_once again unsent attempt is = is_retry again attempt is
+repeated_once again (first ticket) attempt is = ((is_retry again attempt is).0, refl)
+repeated_once again (second ticket) attempt is = (let bad : false ≡ true = is in absurd cc)
+
+-- how often it was sent by what came of a poll: where it failed, and was not sent, for want of memory
+abbrev pub IsCounted : Bool → Step Sending (List ℕ) → ℕ → Type 0
+IsCounted again (came.Pending s) n = n ≡ count_at again s.stage
+IsCounted again (came.Done bytes) n = (1 ≤ n) × (n ≤ most_often again)
+IsCounted again (came.Failed e) n = ((1 ≤ n) ⊎ (e ≡ plain kind.OutOfMemory)) × (n ≤ most_often again)
+
+module _ (wire : ℤ) (s : Sending) where
+  counted_once : (again : Bool) (c : Step Sending (List ℕ)) (attempt : Attempt) (n : ℕ) → n ≡ count_behind again s.stage attempt → AttemptGives attempt wire (λ ticket. record s { stage = holding s.stage ticket }) c → IsCounted again c n
+  counted_once again (came.Pending s') attempt n is gives = is ∙ ap (count_behind again s.stage) gives.1 ∙ held_behind again s.stage gives.0 ∙ ap (λ (x : Sending). count_at again x.stage) (sym gives.2)
+  counted_once again (came.Done bytes) attempt n is gives =
+      subst (λ (m : ℕ). (1 ≤ m) × (m ≤ most_often again)) (sym is) (some_behind again s.stage attempt (reply_sent attempt bytes gives.0), few_behind again s.stage attempt)
+  counted_once again (came.Failed e) attempt n is gives =
+      subst (λ (m : ℕ). ((1 ≤ m) ⊎ (e ≡ plain kind.OutOfMemory)) × (m ≤ most_often again)) (sym is) (failed_behind again s.stage attempt wire e gives, few_behind again s.stage attempt)
+
+  -- once more behind its first attempt
+  counted_twice : (again : Bool) → again ≡ true → (c : Step Sending (List ℕ)) (attempt : Attempt) → AttemptGives attempt wire (λ ticket. record s { stage = second ticket }) c → IsCounted again c (suc (count_of attempt))
+  counted_twice false is c attempt gives = absurd cc
+  counted_twice true is (came.Pending s') attempt gives = ap (λ (x : Attempt). suc (count_of x)) gives.1 ∙ ap (λ (x : Sending). count_at true x.stage) (sym gives.2)
+  counted_twice true is (came.Done bytes) attempt gives = let one = once_at_most attempt in (omega arith, omega (arith, one))
+  counted_twice true is (came.Failed e) attempt gives = let one = once_at_most attempt in (inl (omega arith), omega (arith, one))
+
+-- ---- what a request adds
+
+just_adds : (log log' : LogTold) (command : List ℕ) (seen : Sight) → Adds log log' command seen → AddsJust log log' (fields command ∷ [])
+just_adds log log' command seen adds calls told =
+    let add = adds calls told in
+    let call : Call = record { command = command; position = add.0; seen = seen } in
+    (calls ++ call ∷ [], add.1, map-append (λ (c : Call). fields c.command) calls (call ∷ []))
+
+just_sees : (log log' : LogTold) (place : Option ℕ) (seen : Sight) → Sees log log' place seen → AddsJust log log' []
+just_sees log log' place seen sees calls told =
+    let s = sees calls told in
+    (see s.0 seen calls, s.5, commands_seen s.0 seen calls ∙ sym (append-nil (commands_sent calls)))
+
+module _ (old new : Awaited) (log log' : LogTold) (command : List ℕ) where
+  begun_adds : (attempt : Attempt) → Begins old new log log' command attempt → AddsJust log log' (replicate (count_of attempt) (fields command))
+  begun_adds not_sent b = just_none log log' b.log_same
+  begun_adds (waits given) b = just_adds log log' command waiting b.adds
+  begun_adds (answered seen) b = just_adds log log' command seen b.adds
+
+  gone_on_adds : (ticket : ℕ) (attempt : Attempt) → GoesOn old new log log' ticket attempt → AddsJust log log' []
+  gone_on_adds ticket not_sent g = absurd g
+  gone_on_adds ticket (waits given) g = just_none log log' g.log_same
+  gone_on_adds ticket (answered seen) g = just_sees log log' (old ticket) seen g.sees
+
+  tried_adds : (again : Bool) (stage : Stage) (attempt : Attempt) → Tries old new log log' command stage attempt → (more : ℕ) × AddsJust log log' (replicate more (fields command)) × (count_at again stage + more ≡ count_behind again stage attempt)
+  tried_adds again unsent attempt t = let n = count_of attempt in let same : 0 + n ≡ n = omega arith in (n, begun_adds attempt t, same)
+  tried_adds again (first ticket) attempt t = (0, gone_on_adds ticket attempt t, refl)
+  tried_adds again (second ticket) attempt t = let n = most_often again in let same : n + 0 ≡ n = omega arith in (0, gone_on_adds ticket attempt t, same)
+
+-- A poll of a request adds its command so many times; with those before a read is sent twice at most, and a write once.
+runs_count : (again : Bool) (command : Fields) (old new : Awaited) (log log' : LogTold) (wire : ℤ) (s : Sending) → s.retries ≡ again → fields s.command ≡ command → (c : Step Sending (List ℕ)) → Runs old new log log' wire s c
+    → (more : ℕ) × AddsJust log log' (replicate more command) × IsCounted again c (count_at again s.stage + more)
+runs_count again command old new log log' wire s may is c (inl once) =
+    let x = tried_adds old new log log' s.command again s.stage once.attempt once.tries in
+    (x.0, subst (λ (d : Fields). AddsJust log log' (replicate x.0 d)) is x.1, counted_once wire s again c once.attempt (count_at again s.stage + x.0) x.2 once.gives)
+runs_count again command old new log log' wire s may is c (inr twice) =
+    let r = repeated_once again s.stage twice.attempt (subst (λ (b : Bool). is_repeated b s.stage twice.attempt ≡ true) may twice.repeated) in
+    let x = tried_adds old twice.between log twice.log_between s.command again s.stage twice.attempt twice.tries in
+    let n = count_of twice.again in
+    let y = begun_adds twice.between new twice.log_between log' s.command twice.again twice.begins in
+    let both : AddsJust log log' (replicate (x.0 + n) (fields s.command)) =
+    subst (AddsJust log log') (replicate-append-replicate x.0 n (fields s.command)) (just_on log twice.log_between log' (replicate x.0 (fields s.command)) (replicate n (fields s.command)) x.1 y) in
+    let counts : suc n ≡ count_at again s.stage + (x.0 + n) = (let before = x.2 in let one = r.1 in omega (arith, before, one)) in
+    (x.0 + n, subst (λ (d : Fields). AddsJust log log' (replicate (x.0 + n) d)) is both, subst (IsCounted again c) counts (counted_twice wire s again r.0 c twice.again twice.gives))
+
+-- ---- what a list that is read on adds
+
+mores_on : (commands more : List Fields) → AreGetMores commands → AreGetMores more → AreGetMores (commands ++ more)
+mores_on [] more its rest = rest
+mores_on (c ∷ commands) more its rest = (its.0, mores_on commands more its.1 rest)
+
+mores_sent : (calls : List Call) → ((place : ℕ) (call : Call) → slice_get calls place ≡ Some call → IsGetMore (fields call.command)) → AreGetMores (commands_sent calls)
+mores_sent [] each = tt
+mores_sent (c ∷ calls) each = (each 0 c refl, mores_sent calls (λ place call there. each (suc place) call there))
+
+mores_added : (calls calls' : List Call) → AddsOnly IsGetMore calls calls' → (more : List Fields) × (commands_sent calls' ≡ commands_sent calls ++ more) × AreGetMores more
+mores_added [] calls' a = (commands_sent calls', refl, mores_sent calls' (λ place call there. a.added place call (omega arith) there))
+mores_added (c ∷ calls) [] a = let k = a.keeps 0 c refl in absurd (let bad : None ≡ Some k.0 = k.1 in cc)
+mores_added (c ∷ calls) (d ∷ calls') a =
+    let k = a.keeps 0 c refl in
+    let same : d ≡ k.0 = same_some d k.0 k.1 in
+    let rest = mores_added calls calls' (record { keeps = λ place call there. a.keeps (suc place) call there; added = λ place call behind there. a.added (suc place) call (omega (arith, behind)) there }) in
+    (rest.0, ap₂ (λ (x : Fields) (l : List Fields). x ∷ l) (ap (λ (x : Call). fields x.command) same ∙ ap fields k.2) rest.1, rest.2)
+
+mores_told : (log log' : LogTold) → AddsTold IsGetMore log log' → (more : List Fields) × AddsJust log log' more × AreGetMores more
+mores_told None log' adds = ([], (λ calls told. absurd cc), tt)
+mores_told (Some calls) log' adds =
+    let x = adds calls refl in
+    let s = mores_added calls x.0 x.2 in
+    (s.0, (λ mine told. (x.0, x.1, subst (λ (l : List Call). commands_sent x.0 ≡ commands_sent l ++ s.0) (same_some calls mine told) s.1)), s.2)
+
+-- ---- up to some point
+
+times_more : (part : List Fields) (count more : ℕ) (command : Fields) → part ≡ replicate count command → part ++ replicate more command ≡ replicate (count + more) command
+times_more part count more command is = ap (λ (l : List Fields). l ++ replicate more command) is ∙ replicate-append-replicate count more command
+
+module _ (b : ClientBucket) (at : Place) where
+  behind_as : (P Q : List Fields → Type 0) (commands : List Fields) → ((part : List Fields) → P part → Q part) → SendsBehind b at P commands → SendsBehind b at Q commands
+  behind_as P Q commands f h = record { front = h.front; part = h.part; parts = h.parts; before = h.before; its = f h.part h.its }
+
+  behind_on : (P Q : List Fields → Type 0) (commands more : List Fields) → ((part : List Fields) → P part → Q (part ++ more)) → SendsBehind b at P commands → SendsBehind b at Q (commands ++ more)
+  behind_on P Q commands more f h = record {
+    front = h.front;
+    part = h.part ++ more;
+    parts = ap (λ (l : List Fields). l ++ more) h.parts ∙ append_assoc h.front h.part more;
+    before = h.before;
+    its = f h.part h.its;
+  }
+
+  -- a list is whole where no index is created
+  list_whole : (part : List Fields) → SendsList b at part → SendsWhole b at part
+  list_whole part list = record { count = 0; once = omega arith; ends = record { list = part; parts = sym (append-nil part); listed = list } }
+
+  of_creation : (count : ℕ) → count ≤ 1 → (commands : List Fields) → SendsBehind b at (SendsCreation b at count) commands → CheckSends b commands
+  of_creation count few commands h = to_part at (behind_as (SendsCreation b at count) (SendsPart b at) commands (λ part its. to_creation count few its) h)
+
+  of_listing : (count : ℕ) → count ≤ 2 → (commands : List Fields) → SendsBehind b at (AsksForList b at count) commands → CheckSends b commands
+  of_listing count few commands h = to_part at (behind_as (AsksForList b at count) (SendsPart b at) commands (λ part its. to_listing count few its) h)
+
+  of_list : (commands : List Fields) → SendsBehind b at (SendsList b at) commands → CheckSends b commands
+  of_list commands h = to_part at (behind_as (SendsList b at) (SendsPart b at) commands (λ part its. to_index (list_whole part its)) h)
+
+  of_index : (count : ℕ) → count ≤ 1 → (commands : List Fields) → SendsBehind b at (SendsIndex b at count) commands → CheckSends b commands
+  of_index count few commands h = to_part at (behind_as (SendsIndex b at count) (SendsPart b at) commands (λ part its. to_index (record { count = count; once = few; ends = its })) h)
+
+  of_whole : (commands : List Fields) → SendsBehind b at (SendsWhole b at) commands → CheckSends b commands
+  of_whole commands h = to_part at (behind_as (SendsWhole b at) (SendsPart b at) commands (λ part its. to_index its) h)
+
+-- however far it has come, these are its commands
+pub check_so_far : (b : ClientBucket) (commands : List Fields) (c : ClientCheck) → CheckSentAt b commands c → CheckSends b commands
+check_so_far b commands (finds s) h = to_find (count_at true s.stage) (most_at true s.stage) h
+check_so_far b commands (creates k s) h = of_creation b k (count_at false s.stage) (most_at false s.stage) commands h
+check_so_far b commands (lists k s) h = of_listing b k (count_at true s.stage) (most_at true s.stage) commands h
+check_so_far b commands (reads k cursor found count) h = of_list b k commands h
+check_so_far b commands (indexes k s) h = of_index b k (count_at false s.stage) (most_at false s.stage) commands h
+
+pub check_passed : (b : ClientBucket) (commands : List Fields) → CheckPasses b commands → CheckSends b commands
+check_passed b commands (inl find) = to_find find.count find.few find.parts
+check_passed b commands (inr whole) = of_whole b place.Chunks commands whole
+
+-- it begins with nothing
+pub check_begins : (b : ClientBucket) (commands : List Fields) (s : Sending) → commands ≡ [] → s.stage ≡ unsent → CheckSentAt b commands (finds s)
+check_begins b commands s none new = none ∙ ap (λ (x : Stage). replicate (count_at true x) (any_find b)) (sym new)
+
+-- ---- what comes of a step
+
+-- the commands of a check by what its step comes to
+abbrev pub TurnSent : ClientBucket → List Fields → CheckTurned → Type 0
+TurnSent b commands (check.goes c) = CheckSentAt b commands c
+TurnSent b commands (check.pends c) = CheckSentAt b commands c
+TurnSent b commands check.passes = CheckPasses b commands
+TurnSent b commands (check.fails e) = CheckSends b commands
+
+module _ (b : ClientBucket) (commands : List Fields) where
+  turn_as : (r q : CheckTurned) → r ≡ q → TurnSent b commands q → TurnSent b commands r
+  turn_as r q is h = subst (TurnSent b commands) (sym is) h
+
+  builds_sent : (again : Bool) (lines : List Line) (then : Sending → ClientCheck) (r : CheckTurned) → ((s : Sending) → s.stage ≡ unsent → CheckSentAt b commands (then s)) → CheckSends b commands → Builds again lines then r → TurnSent b commands r
+  builds_sent again lines then r next so_far (check.built s request is) = turn_as r (check.goes (then s)) is (next s request.new)
+  builds_sent again lines then r next so_far (check.not_built e fails is) = turn_as r (check.fails e) is so_far
+
+  -- the part of a collection begins
+  part_begins : (k : Place) → SendsBefore b k commands → (s : Sending) → s.stage ≡ unsent → SendsBehind b k (SendsCreation b k (count_at false s.stage)) commands
+  part_begins k before s new = record { front = commands; part = []; parts = sym (append-nil commands); before = before; its = ap (λ (x : Stage). replicate (count_at false x) (creation b k)) (sym new) }
+
+  goes_behind : (k : Place) (r : CheckTurned) → SendsBehind b k (SendsWhole b k) commands → GoesBehind b k r → TurnSent b commands r
+  goes_behind place.Files r h goes = builds_sent false _ (creates place.Chunks) r (part_begins place.Chunks (h.front, h.part, h.parts, h.before, h.its)) (of_whole b place.Files commands h) goes
+  goes_behind place.Chunks r h is = turn_as r check.passes is (inr h)
+
+  -- ---- the find
+
+  any_sent : (n : ℕ) → 1 ≤ n → n ≤ 2 → commands ≡ replicate n (any_find b) → (bytes : List ℕ) (r : CheckTurned) → HearsAny b bytes r → TurnSent b commands r
+  any_sent n some few so bytes r (check.some said read there is) = turn_as r check.passes is (inl (record { count = n; parts = so; some = some; few = few }))
+  any_sent n some few so bytes r (check.none said read empty builds) =
+      let find : SendsFind b commands = record { count = n; parts = so; some = some; few = few } in
+      builds_sent false _ (creates place.Files) r (part_begins place.Files find) (to_find n few so) builds
+  any_sent n some few so bytes r (check.broke e fails is) = turn_as r (check.fails e) is (to_find n few so)
+
+  find_sent : (n : ℕ) → commands ≡ replicate n (any_find b) → (c : Step Sending (List ℕ)) → IsCounted true c n → (r : CheckTurned) → HearsFind b c r → TurnSent b commands r
+  find_sent n so (came.Pending s) counted r h = turn_as r (check.pends (finds s)) h (so ∙ ap (λ (m : ℕ). replicate m (any_find b)) counted)
+  find_sent n so (came.Done bytes) counted r h = any_sent n counted.0 counted.1 so bytes r h
+  find_sent n so (came.Failed e) counted r h = turn_as r (check.fails e) h (to_find n counted.1 so)
+
+  module _ (k : Place) where
+    -- ---- the creation
+
+    -- once it is sent the list is asked for
+    listing_next : (n : ℕ) → 1 ≤ n → n ≤ 1 → (s : Sending) → s.stage ≡ unsent → (part : List Fields) → SendsCreation b k n part → AsksForList b k (count_at true s.stage) part
+    listing_next n some few s new part so =
+        let one : n ≡ 1 = omega (arith, some, few) in
+        so ∙ ap (λ (m : ℕ). replicate m (creation b k)) one ∙ ap (λ (x : Stage). creation b k ∷ replicate (count_at true x) (listing b k)) (sym new)
+
+    creation_goes : (n : ℕ) → 1 ≤ n → n ≤ 1 → SendsBehind b k (SendsCreation b k n) commands → (lines : List Line) (r : CheckTurned) → Builds true lines (lists k) r → TurnSent b commands r
+    creation_goes n some few so lines r builds =
+        builds_sent true lines (lists k) r (λ s new. behind_as b k (SendsCreation b k n) (AsksForList b k (count_at true s.stage)) commands (listing_next n some few s new) so) (of_creation b k n few commands so) builds
+
+    -- one that is refused since the collection is there was sent
+    refused_sent : (n : ℕ) (c : Step Sending (List ℕ)) (e e' : Error) → (1 ≤ n) ⊎ (e ≡ plain kind.OutOfMemory) → c ≡ came.Failed e → c ≡ came.Failed e' → command_code e'.kind ≡ Some namespace_exists → 1 ≤ n
+    refused_sent n c e e' (inl some) is is' code = some
+    refused_sent n c e e' (inr memory) is is' code =
+        let same : e' ≡ e = cc in
+        let none : command_code e'.kind ≡ None = ap (λ (x : Error). command_code x.kind) (same ∙ memory) in
+        let bad : None ≡ Some namespace_exists = sym none ∙ code in
+        absurd cc
+
+    creation_done : (n : ℕ) → 1 ≤ n → n ≤ 1 → SendsBehind b k (SendsCreation b k n) commands → (c : Step Sending (List ℕ)) (r : CheckTurned) → Creates b k c r → TurnSent b commands r
+    creation_done n some few so c r (check.created bytes is none builds) = creation_goes n some few so _ r builds
+    creation_done n some few so c r (check.there e is code builds) = creation_goes n some few so _ r builds
+    creation_done n some few so c r (check.unread bytes e is fails answer) = turn_as r (check.fails e) answer (of_creation b k n few commands so)
+    creation_done n some few so c r (check.other e is code answer) = turn_as r (check.fails e) answer (of_creation b k n few commands so)
+
+    creation_failed : (n : ℕ) (e : Error) → (1 ≤ n) ⊎ (e ≡ plain kind.OutOfMemory) → n ≤ 1 → SendsBehind b k (SendsCreation b k n) commands → (c : Step Sending (List ℕ)) → c ≡ came.Failed e → (r : CheckTurned) → Creates b k c r → TurnSent b commands r
+    creation_failed n e some few so c failed r (check.created bytes is none builds) = (let bad : came.Failed e ≡ came.Done bytes = sym failed ∙ is in absurd cc)
+    creation_failed n e some few so c failed r (check.there e' is code builds) = creation_goes n (refused_sent n c e e' some failed is code) few so _ r builds
+    creation_failed n e some few so c failed r (check.unread bytes e' is fails answer) = turn_as r (check.fails e') answer (of_creation b k n few commands so)
+    creation_failed n e some few so c failed r (check.other e' is code answer) = turn_as r (check.fails e') answer (of_creation b k n few commands so)
+
+    creation_sent : (n : ℕ) → SendsBehind b k (SendsCreation b k n) commands → (c : Step Sending (List ℕ)) → IsCounted false c n → (r : CheckTurned) → HearsCreation b k c r → TurnSent b commands r
+    creation_sent n so (came.Pending s) counted r h = turn_as r (check.pends (creates k s)) h (subst (λ (m : ℕ). SendsBehind b k (SendsCreation b k m) commands) counted so)
+    creation_sent n so (came.Done bytes) counted r h = creation_done n counted.0 counted.1 so (came.Done bytes) r h
+    creation_sent n so (came.Failed e) counted r h = creation_failed n e counted.0 counted.1 so (came.Failed e) refl r h
+
+    -- ---- the list
+
+    list_begins : (n : ℕ) → 1 ≤ n → n ≤ 2 → (part : List Fields) → AsksForList b k n part → SendsList b k part
+    list_begins n some few part so = record { asked = n; mores = []; parts = so ∙ ap (λ (l : List Fields). creation b k ∷ l) (sym (append-nil (replicate n (listing b k)))); some = some; few = few; read_on = tt }
+
+    list_sent : (n : ℕ) → 1 ≤ n → n ≤ 2 → SendsBehind b k (AsksForList b k n) commands → (bytes : List ℕ) (r : CheckTurned) → HearsList k bytes r → TurnSent b commands r
+    list_sent n some few so bytes r (check.opened out opens is) =
+        turn_as r (check.goes (reads k (new_documents (new_client out)) false 0)) is (behind_as b k (AsksForList b k n) (SendsList b k) commands (list_begins n some few) so)
+    list_sent n some few so bytes r (check.broke e fails is) = turn_as r (check.fails e) is (of_listing b k n few commands so)
+
+    listing_sent : (n : ℕ) → SendsBehind b k (AsksForList b k n) commands → (c : Step Sending (List ℕ)) → IsCounted true c n → (r : CheckTurned) → HearsListing k c r → TurnSent b commands r
+    listing_sent n so (came.Pending s) counted r h = turn_as r (check.pends (lists k s)) h (subst (λ (m : ℕ). SendsBehind b k (AsksForList b k m) commands) counted so)
+    listing_sent n so (came.Done bytes) counted r h = list_sent n counted.0 counted.1 so bytes r h
+    listing_sent n so (came.Failed e) counted r h = turn_as r (check.fails e) h (of_listing b k n counted.1 commands so)
+
+    module _ (so : SendsBehind b k (SendsList b k) commands) where
+      look_sent : (cursor : DocumentCursor) (document : List ℕ) (found : Bool) (count : ℕ) (r : CheckTurned) → Looks k cursor document found count r → TurnSent b commands r
+      look_sent cursor document found count r (check.looked i few read is) = turn_as r _ is so
+      look_sent cursor document found count r (check.too_many many is) = turn_as r _ is (of_list b k commands so)
+      look_sent cursor document found count r (check.broke e fails is) = turn_as r (check.fails e) is (of_list b k commands so)
+
+      index_next : (s : Sending) → s.stage ≡ unsent → SendsBehind b k (SendsIndex b k (count_at false s.stage)) commands
+      index_next s new =
+          behind_as b k (SendsList b k) (SendsIndex b k (count_at false s.stage)) commands
+          (λ part its. record { list = part; parts = sym (append-nil part) ∙ ap (λ (x : Stage). part ++ replicate (count_at false x) (index_creation b k)) (sym new); listed = its }) so
+
+      listed_sent : (found : Bool) (r : CheckTurned) → EndsList b k found r → TurnSent b commands r
+      listed_sent true r h = goes_behind k r (behind_as b k (SendsList b k) (SendsWhole b k) commands (list_whole b k) so) h
+      listed_sent false r h = builds_sent false _ (indexes k) r index_next (of_list b k commands so) h
+
+      advanced_sent : (cursor : DocumentCursor) (found : Bool) (count : ℕ) (poll : AdvancePoll) (r : CheckTurned) → HearsAdvance b k cursor found count poll r → TurnSent b commands r
+      advanced_sent cursor found count advance.Pending r h = turn_as r (check.pends (reads k cursor found count)) h so
+      advanced_sent cursor found count (advance.Ready true) r h = look_sent cursor h.0 found count r h.2
+      advanced_sent cursor found count (advance.Ready false) r h = listed_sent found r h
+      advanced_sent cursor found count (advance.Failed e) r h = turn_as r (check.fails e) h (of_list b k commands so)
+
+    -- ---- the index
+
+    indexed_sent : (n : ℕ) → n ≤ 1 → SendsBehind b k (SendsIndex b k n) commands → (bytes : List ℕ) (r : CheckTurned) → HearsIndexed b k bytes r → TurnSent b commands r
+    indexed_sent n few so bytes r (check.done none behind) = goes_behind k r (behind_as b k (SendsIndex b k n) (SendsWhole b k) commands (λ part its. record { count = n; once = few; ends = its }) so) behind
+    indexed_sent n few so bytes r (check.unread e fails is) = turn_as r (check.fails e) is (of_index b k n few commands so)
+
+    index_sent : (n : ℕ) → SendsBehind b k (SendsIndex b k n) commands → (c : Step Sending (List ℕ)) → IsCounted false c n → (r : CheckTurned) → HearsIndex b k c r → TurnSent b commands r
+    index_sent n so (came.Pending s) counted r h = turn_as r (check.pends (indexes k s)) h (subst (λ (m : ℕ). SendsBehind b k (SendsIndex b k m) commands) counted so)
+    index_sent n so (came.Done bytes) counted r h = indexed_sent n counted.1 so bytes r h
+    index_sent n so (came.Failed e) counted r h = turn_as r (check.fails e) h (of_index b k n counted.1 commands so)
+
+-- ---- a step
+
+module _ (b : ClientBucket) (k : Place) (commands : List Fields) where
+  creation_more : (n more : ℕ) → SendsBehind b k (SendsCreation b k n) commands → SendsBehind b k (SendsCreation b k (n + more)) (commands ++ replicate more (creation b k))
+  creation_more n more so = behind_on b k (SendsCreation b k n) (SendsCreation b k (n + more)) commands (replicate more (creation b k)) (λ part is. times_more part n more (creation b k) is) so
+
+  listing_more : (n more : ℕ) → SendsBehind b k (AsksForList b k n) commands → SendsBehind b k (AsksForList b k (n + more)) (commands ++ replicate more (listing b k))
+  listing_more n more so =
+      let C : Fields = creation b k in
+      let L : Fields = listing b k in
+      behind_on b k (AsksForList b k n) (AsksForList b k (n + more)) commands (replicate more L)
+      (λ part is. ap (λ (l : List Fields). l ++ replicate more L) is ∙ ap (λ (l : List Fields). C ∷ l) (replicate-append-replicate n more L)) so
+
+  list_more : (more : List Fields) → AreGetMores more → SendsBehind b k (SendsList b k) commands → SendsBehind b k (SendsList b k) (commands ++ more)
+  list_more more mores so = behind_on b k (SendsList b k) (SendsList b k) commands more (λ part its. record {
+    asked = its.asked;
+    mores = its.mores ++ more;
+    parts = ap (λ (l : List Fields). l ++ more) its.parts ∙ ap (λ (l : List Fields). creation b k ∷ l) (append_assoc (replicate its.asked (listing b k)) its.mores more);
+    some = its.some;
+    few = its.few;
+    read_on = mores_on its.mores more its.read_on mores;
+  }) so
+
+  index_more : (n more : ℕ) → SendsBehind b k (SendsIndex b k n) commands → SendsBehind b k (SendsIndex b k (n + more)) (commands ++ replicate more (index_creation b k))
+  index_more n more so =
+      let I : Fields = index_creation b k in
+      behind_on b k (SendsIndex b k n) (SendsIndex b k (n + more)) commands (replicate more I) (λ part its. record {
+        list = its.list;
+        parts = ap (λ (l : List Fields). l ++ replicate more I) its.parts ∙ append_assoc its.list (replicate n I) (replicate more I) ∙ ap (λ (l : List Fields). its.list ++ l) (replicate-append-replicate n more I);
+        listed = its.listed;
+      }) so
+
+module _ (b : ClientBucket) (old new : Awaited) (log log' : LogTold) (wire : ℤ) (commands : List Fields) where
+  -- a step of it adds some commands, and behind these it is as it should be
+  abbrev pub CheckAdds : CheckTurned → Type 0
+  CheckAdds r = (more : List Fields) × AddsJust log log' more × TurnSent b (commands ++ more) r
+
+  -- A step of the check sends its next commands alone.
+  pub check_adds : (c : ClientCheck) (r : CheckTurned) → IsSoundCheck b c → CheckFlies c → CheckSentAt b commands c → ChecksOn old new log log' wire b c r → CheckAdds r
+  check_adds c r sound flies sent (by_find s is x runs hears) =
+      let request = subst (IsSoundCheck b) is sound in
+      let n = count_at true s.stage in
+      let a = runs_count true (any_find b) old new log log' wire s request.retries_is request.command_is x runs in
+      let more = replicate a.0 (any_find b) in
+      (more, a.1, find_sent b (commands ++ more) (n + a.0) (times_more commands n a.0 (any_find b) (subst (CheckSentAt b commands) is sent)) x a.2 r hears)
+  check_adds c r sound flies sent (by_creation k s is x runs hears) =
+      let request = subst (IsSoundCheck b) is sound in
+      let n = count_at false s.stage in
+      let a = runs_count false (creation b k) old new log log' wire s request.retries_is request.command_is x runs in
+      let more = replicate a.0 (creation b k) in
+      (more, a.1, creation_sent b (commands ++ more) k (n + a.0) (creation_more b k commands n a.0 (subst (CheckSentAt b commands) is sent)) x a.2 r hears)
+  check_adds c r sound flies sent (by_listing k s is x runs hears) =
+      let request = subst (IsSoundCheck b) is sound in
+      let n = count_at true s.stage in
+      let a = runs_count true (listing b k) old new log log' wire s request.retries_is request.command_is x runs in
+      let more = replicate a.0 (listing b k) in
+      (more, a.1, listing_sent b (commands ++ more) k (n + a.0) (listing_more b k commands n a.0 (subst (CheckSentAt b commands) is sent)) x a.2 r hears)
+  check_adds c r sound flies sent (by_advance k cursor found count is empties starts left poll seeks hears) =
+      let o = seeks_send empties old new log log' wire starts cursor left poll (subst (IsSoundCheck b) is sound).0 (subst CheckFlies is flies) seeks in
+      let a = mores_told log log' o.0 in
+      (a.0, a.1, advanced_sent b (commands ++ a.0) k (list_more b k commands a.0 a.2 (subst (CheckSentAt b commands) is sent)) left found count poll r hears)
+  check_adds c r sound flies sent (by_index k s is x runs hears) =
+      let request = subst (IsSoundCheck b) is sound in
+      let n = count_at false s.stage in
+      let a = runs_count false (index_creation b k) old new log log' wire s request.retries_is request.command_is x runs in
+      let more = replicate a.0 (index_creation b k) in
+      (more, a.1, index_sent b (commands ++ more) k (n + a.0) (index_more b k commands n a.0 (subst (CheckSentAt b commands) is sent)) x a.2 r hears)
