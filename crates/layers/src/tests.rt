@@ -21,11 +21,11 @@ mod unprinted;
 mod walks;
 mod words;
 
-use mg_bson::{BsonError, Document, to_bytes};
+use crate::bytes_at;
+use mg_bson::{Document, RawDocumentBuf, to_document};
 use mg_link::Error;
-use std::alloc::Global;
+use std::alloc::{AllocError, Global};
 use std::process::Abort;
-use std::test::Fail;
 
 /// What the lines of a table are about.
 trait Subject {
@@ -33,34 +33,46 @@ trait Subject {
     fn found(alloc: Global, given: &str) -> Result<String, Error>;
 }
 
-/// Fails a test where a text is not the wanted one.
-fn expect(rt: &impl Abort, about: &str, found: &str, wanted: &str) {
-    assert_eq!(rt; found, wanted, "{about}");
+// What is found, or what the error in its place prints as.
+fn printed<S: Subject>(alloc: Global, given: &str) -> Result<String, AllocError> {
+    match S::found(alloc, given) {
+        Ok(found) => Ok(found),
+        Err(error) => format!(in alloc; "{error}"),
+    }
+}
+
+// The lines of which something else is found than stands behind the mark, and what.
+fn differences<S: Subject>(alloc: Global, mark: &str, table: &str) -> Result<String, AllocError> {
+    let mut differences = String::new(alloc);
+    for line in table.lines() {
+        let (given, wanted) = line.split_once(mark).unwrap_or((line, ""));
+        let found = printed::<S>(alloc, given)?;
+        if found.as_str() != wanted {
+            write!(differences, "\n{line}\nbut found: {found}")?;
+        }
+    }
+    Ok(differences)
+}
+
+/// The bytes of a document that digits stand for.
+fn raw_at(alloc: Global, digits: &str) -> Result<RawDocumentBuf, Error> {
+    Ok(RawDocumentBuf::from_bytes(bytes_at(alloc, digits)?)?)
+}
+
+/// The document that digits stand for.
+fn document_at(alloc: Global, digits: &str) -> Result<Document, Error> {
+    let raw = raw_at(alloc, digits)?;
+    Ok(to_document(alloc, raw.as_raw())?)
+}
+
+/// A copy of a value, which is let go.
+fn copied<T: Clone + Drop>(value: T) -> Result<T, Error> {
+    Ok(value.clone()?)
 }
 
 /// Fails a test where what is found of what a line gives, or what the error in its place prints as, is not what stands
-/// behind the mark. It is the one loop over tables whose lines do not build on each other.
-fn are_found<S: Subject>(
-    rt: &impl Abort,
-    alloc: Global,
-    mark: &str,
-    table: &str,
-) -> Result<(), Fail> {
-    for line in table.lines() {
-        let (given, wanted) = match line.split_once(mark) {
-            Some(parts) => parts,
-            None => (line, ""),
-        };
-        let found = match S::found(alloc, given) {
-            Ok(found) => found,
-            Err(error) => format!(in alloc; "{error}")?,
-        };
-        expect(rt, line, found.as_str(), wanted);
-    }
-    Ok(())
-}
-
-/// The bytes of a document.
-fn bytes_of(alloc: Global, document: &Document) -> Result<Vec<u8>, BsonError> {
-    Ok(to_bytes(alloc, document)?.into_bytes())
+/// behind the mark, and tells all such lines. It is the one loop over tables whose lines do not build on each other.
+fn are_found<S: Subject>(rt: &(impl Abort + AllocGlobal), mark: &str, table: &str) {
+    let differences = differences::<S>(rt.alloc(), mark, table).expect(rt, "memory");
+    assert!(rt; differences.is_empty(), "{differences}");
 }

@@ -211,20 +211,19 @@ fn one_batch_cursor(rt: HostRuntime) -> Result<(), Fail> {
 }
 
 #[test]
-fn cursors_to_their_closing(rt: HostRuntime) -> Result<(), Fail> {
-    are_found::<Runs>(&rt, rt.alloc(), "~", RUNS)
+fn cursors_to_their_closing(rt: HostRuntime) {
+    are_found::<Runs>(&rt, "~", RUNS);
 }
 
 #[test]
-fn thousand_empty_batches(rt: HostRuntime) -> Result<(), Fail> {
+fn thousand_empty_batches(rt: HostRuntime) {
     let alloc = rt.alloc();
-    let script = repeated(alloc, "10", " 10", 1998, " k.")?;
-    let seen = run(alloc, "10", script.as_str(), "aa", 0)?;
+    let script = repeated(alloc, "10", " 10", 1998, " k.").expect(&rt, "memory");
+    let seen = run(alloc, "10", script.as_str(), "aa", 0).expect(&rt, "a run");
     let twice = "/1000 empty replies in a row/1000 empty replies in a row/done";
     let killed = r#"/killCursors [{"$int64":"1"}]"#;
-    let wanted = repeated(alloc, twice, "/getMore 1", 1999, killed)?;
+    let wanted = repeated(alloc, twice, "/getMore 1", 1999, killed).expect(&rt, "memory");
     expect(&rt, "two calls", seen.as_str(), wanted.as_str());
-    Ok(())
 }
 
 // ---- each cursor once
@@ -331,8 +330,8 @@ impl Subject for Calls {
 }
 
 #[test]
-fn first_documents(rt: HostRuntime) -> Result<(), Fail> {
-    are_found::<Calls>(&rt, rt.alloc(), "~", CALLS)
+fn first_documents(rt: HostRuntime) {
+    are_found::<Calls>(&rt, "~", CALLS);
 }
 
 // ---- over a store
@@ -433,6 +432,6 @@ impl Subject for Finds {
 }
 
 #[test]
-fn find_in_order(rt: HostRuntime) -> Result<(), Fail> {
-    are_found::<Finds>(&rt, rt.alloc(), "~", FINDS)
+fn find_in_order(rt: HostRuntime) {
+    are_found::<Finds>(&rt, "~", FINDS);
 }

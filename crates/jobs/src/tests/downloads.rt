@@ -12,7 +12,6 @@ use mg_gridfs::{GridFsDownloadStream, ReadPoll};
 use mg_link::{Action, Error, ErrorKind, Step, plain};
 use mg_store::MemLink;
 use std::alloc::{AllocError, Global};
-use std::test::Fail;
 
 // Opens a download of the file of this id.
 fn open(alloc: Global, link: &mut MemLink, id: i32) -> Result<GridFsDownloadStream, Error>
@@ -113,8 +112,8 @@ impl Subject for Gets {
 }
 
 #[test]
-fn what_was_put_is_got(rt: HostRuntime) -> Result<(), Fail> {
-    are_found::<Gets>(&rt, rt.alloc(), "~", GETS)
+fn what_was_put_is_got(rt: HostRuntime) {
+    are_found::<Gets>(&rt, "~", GETS);
 }
 
 // ---- files that differ from their records
@@ -217,8 +216,8 @@ impl Subject for DifferingChunks {
 }
 
 #[test]
-fn chunks_are_checked(rt: HostRuntime) -> Result<(), Fail> {
-    are_found::<DifferingChunks>(&rt, rt.alloc(), "~", DIFFERING)
+fn chunks_are_checked(rt: HostRuntime) {
+    are_found::<DifferingChunks>(&rt, "~", DIFFERING);
 }
 
 /// A store of two files, and one of none, and what is read there.
@@ -237,6 +236,6 @@ impl Subject for Others {
 }
 
 #[test]
-fn files_stand_beside_others(rt: HostRuntime) -> Result<(), Fail> {
-    are_found::<Others>(&rt, rt.alloc(), "~", OTHERS)
+fn files_stand_beside_others(rt: HostRuntime) {
+    are_found::<Others>(&rt, "~", OTHERS);
 }

@@ -8,7 +8,6 @@ use layers::one_field;
 use mg_bson::{Bson, BsonError, RawDocumentBuf, to_bytes};
 use mg_link::{Action, Error, ErrorKind, Exec, Retry, ScriptLink, Step, plain, verdict_of};
 use std::alloc::{AllocError, Global};
-use std::test::Fail;
 
 fn ping(alloc: Global) -> Result<RawDocumentBuf, BsonError> {
     to_bytes(alloc, &one_field(alloc, "ping", Bson::Int32(1))?)
@@ -76,8 +75,8 @@ impl Subject for Answers {
 }
 
 #[test]
-fn answers_to_pings(rt: HostRuntime) -> Result<(), Fail> {
-    are_found::<Answers>(&rt, rt.alloc(), "~", ANSWERS)
+fn answers_to_pings(rt: HostRuntime) {
+    are_found::<Answers>(&rt, "~", ANSWERS);
 }
 
 // How many polls a ping takes to its end, 9 at most, and what comes of it.
@@ -120,8 +119,8 @@ impl Subject for Polls {
 }
 
 #[test]
-fn replies_that_pend(rt: HostRuntime) -> Result<(), Fail> {
-    are_found::<Polls>(&rt, rt.alloc(), "~", POLLS)
+fn replies_that_pend(rt: HostRuntime) {
+    are_found::<Polls>(&rt, "~", POLLS);
 }
 
 // What an error prints as, whether it has the label, how many it has, and its wire version.
@@ -144,9 +143,9 @@ impl Subject for Refusals {
 }
 
 #[test]
-fn what_refusals_say(rt: HostRuntime) -> Result<(), Fail> {
+fn what_refusals_say(rt: HostRuntime) {
     let said = "63~refused with code 63 (Name): not now true 1 Some(21)";
-    are_found::<Refusals>(&rt, rt.alloc(), "~", said)
+    are_found::<Refusals>(&rt, "~", said);
 }
 
 /// Each line is a reply, and what it says: 1 of each kind, then 0, 2, 1.5 and a flag. Numbers with a point stand as bytes.
@@ -168,6 +167,6 @@ impl Subject for Verdicts {
 }
 
 #[test]
-fn what_ok_says(rt: HostRuntime) -> Result<(), Fail> {
-    are_found::<Verdicts>(&rt, rt.alloc(), " ", VERDICTS)
+fn what_ok_says(rt: HostRuntime) {
+    are_found::<Verdicts>(&rt, " ", VERDICTS);
 }

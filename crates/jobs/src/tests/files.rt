@@ -5,7 +5,7 @@ ghost use Rattle.mg_gridfs.specs.Uploads.{upload_ticket};
 ghost use Rattle.mg_gridfs.specs.UploadView.{IsUpload, upload_of};
 
 use super::scripted::{command_words, error_word, link_of};
-use super::{Subject, are_found, empty_link, expect};
+use super::{Subject, are_found, empty_link};
 use layers::{collection, parted, repeated};
 use mg_bson::{Bson, DateTime, RawDocument};
 use mg_gridfs::{DatabaseDefaults, GridFsBucket, GridFsUploadStream, Step2, WritePoll};
@@ -14,7 +14,6 @@ use mg_options::GridFsBucketOptions;
 use mg_records::{FilesCollectionDocument, last_number};
 use mg_store::MemLink;
 use std::alloc::Global;
-use std::test::Fail;
 
 /// Each line is a question about the chunks of a file, its numbers, and the answer: how many chunks of a size hold so many
 /// bytes, how many bytes the chunk of a number has, and which number the last of some chunks has.
@@ -73,8 +72,8 @@ impl Subject for Chunks {
 }
 
 #[test]
-fn chunks_are_told(rt: HostRuntime) -> Result<(), Fail> {
-    are_found::<Chunks>(&rt, rt.alloc(), " -> ", CHUNKS)
+fn chunks_are_told(rt: HostRuntime) {
+    are_found::<Chunks>(&rt, " -> ", CHUNKS);
 }
 
 // ---- uploads
@@ -227,8 +226,8 @@ impl Subject for Uploads {
 }
 
 #[test]
-fn uploads_to_their_end(rt: HostRuntime) -> Result<(), Fail> {
-    are_found::<Uploads>(&rt, rt.alloc(), "~", UPLOADS)
+fn uploads_to_their_end(rt: HostRuntime) {
+    are_found::<Uploads>(&rt, "~", UPLOADS);
 }
 
 /// The same lines, of closes while a write goes on.
@@ -240,8 +239,8 @@ r+ 1|wc~/pending/a write is going on/find "fs.files"/delete "fs.chunks"
 r 1+ 1+|wcwfc~/pending/pending/the upload is closed/open/a write is going on/find "fs.files"/insert "fs.chunks"/delete "fs.chunks""#;
 
 #[test]
-fn upload_closed_in_flight(rt: HostRuntime) -> Result<(), Fail> {
-    are_found::<Uploads>(&rt, rt.alloc(), "~", CLOSED_IN_FLIGHT)
+fn upload_closed_in_flight(rt: HostRuntime) {
+    are_found::<Uploads>(&rt, "~", CLOSED_IN_FLIGHT);
 }
 
 // ---- over a store
@@ -297,7 +296,7 @@ fn lengths(alloc: Global, link: &MemLink, coll: &str) -> Result<String, Error> {
     let mut told = String::new(alloc);
     for document in link.store().documents(&collection(alloc, coll)?)? {
         let length = length_of(&document.as_raw()).unwrap_or(-1);
-        told.push_str(format!(in alloc; "/{length}")?.as_str())?;
+        write!(told, "/{length}")?;
     }
     Ok(told)
 }
@@ -353,23 +352,29 @@ impl Subject for Puts {
 }
 
 #[test]
-fn pieces_are_stored_in_chunks(rt: HostRuntime) -> Result<(), Fail> {
-    are_found::<Puts>(&rt, rt.alloc(), "~", PUTS)
+fn pieces_are_stored_in_chunks(rt: HostRuntime) {
+    are_found::<Puts>(&rt, "~", PUTS);
+}
+
+struct Long;
+
+impl Subject for Long {
+    // A write of so many chunks: what it came to, and which commands were sent.
+    fn found(alloc: Global, count: &str) -> Result<String, Error> {
+        let mut link = link_of(alloc, REPLIES, "r 1 1", 0)?;
+        let mut ids = CountedIds::new([0, 0, 0, 0]);
+        let mut upload = opened(alloc, &mut ids, Some(1))?;
+        let piece = repeated(alloc, "", "z", small(count), "")?;
+        let poll = upload.poll_write(&mut link, &mut ids, piece.as_bytes());
+        let told = write_word(alloc, &poll)?;
+        let sent = command_words(alloc, &link)?;
+        Ok(format!(in alloc; "{told}{sent}")?)
+    }
 }
 
 // A write of more chunks than one command holds.
 #[test]
-fn long_write_is_cut(rt: HostRuntime) -> Result<(), Fail> {
-    let alloc = rt.alloc();
-    let mut link = link_of(alloc, REPLIES, "r 1 1", 0)?;
-    let mut ids = CountedIds::new([0, 0, 0, 0]);
-    let mut upload = opened(alloc, &mut ids, Some(1))?;
-    let piece = repeated(alloc, "", "z", 100_001, "")?;
-    let poll = upload.poll_write(&mut link, &mut ids, piece.as_bytes());
-    let told = write_word(alloc, &poll)?;
-    let sent = command_words(alloc, &link)?;
-    let found = format!(in alloc; "{told}{sent}")?;
-    let wanted = r#"/wrote 100001/find "fs.files"/insert "fs.chunks"/insert "fs.chunks""#;
-    expect(&rt, "a long write", found.as_str(), wanted);
-    Ok(())
+fn long_write_is_cut(rt: HostRuntime) {
+    let wanted = r#"100001~/wrote 100001/find "fs.files"/insert "fs.chunks"/insert "fs.chunks""#;
+    are_found::<Long>(&rt, "~", wanted);
 }

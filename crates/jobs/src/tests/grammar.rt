@@ -4,7 +4,6 @@ use mg_jobs::{ScriptError, json_text, parse_script, value_from_json};
 use mg_link::Error;
 use serde_json::Value;
 use std::alloc::{AllocError, Global};
-use std::test::Fail;
 
 // ---- values
 
@@ -106,8 +105,8 @@ impl Subject for ScriptValues {
 }
 
 #[test]
-fn values(rt: HostRuntime) -> Result<(), Fail> {
-    are_found::<ScriptValues>(&rt, rt.alloc(), "~", VALUES)
+fn values(rt: HostRuntime) {
+    are_found::<ScriptValues>(&rt, "~", VALUES);
 }
 
 // ---- scripts
@@ -311,10 +310,10 @@ impl Subject for Fates {
 }
 
 #[test]
-fn places(rt: HostRuntime) -> Result<(), Fail> {
-    are_found::<Scripts>(&rt, rt.alloc(), "~", SCRIPTS)?;
-    are_found::<Jobs>(&rt, rt.alloc(), "~", JOBS)?;
-    are_found::<Fates>(&rt, rt.alloc(), "~", FATES)
+fn places(rt: HostRuntime) {
+    are_found::<Scripts>(&rt, "~", SCRIPTS);
+    are_found::<Jobs>(&rt, "~", JOBS);
+    are_found::<Fates>(&rt, "~", FATES);
 }
 
 /// So many arrays, one in the other, or so many entries before the last, in a script, and the place of its first fault. None is
@@ -341,6 +340,6 @@ impl Subject for Large {
 }
 
 #[test]
-fn large_scripts(rt: HostRuntime) -> Result<(), Fail> {
-    are_found::<Large>(&rt, rt.alloc(), " -> ", LARGE)
+fn large_scripts(rt: HostRuntime) {
+    are_found::<Large>(&rt, " -> ", LARGE);
 }

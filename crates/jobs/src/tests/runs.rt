@@ -3,7 +3,6 @@ use mg_jobs::{MemSink, MemSource, run_program};
 use mg_link::Error;
 use std::alloc::{AllocError, Global};
 use std::process::Abort;
-use std::test::Fail;
 
 /// The numbers of calls that are to fail, each a digit.
 fn failing(alloc: Global, digits: &str) -> Result<Vec<u64>, AllocError> {
@@ -70,41 +69,40 @@ fn parts(line: &str) -> Option<(&str, &str, &str, &str, &str)> {
 }
 
 /// Runs one line, and fails where something else comes of it.
-fn run_line(rt: &impl Abort, alloc: Global, line: &str) -> Result<(), Fail> {
-    let Some((words, reads, writes, input, wanted)) = parts(line) else {
-        return Err(Fail::from("line"));
-    };
-    let found = outcome_of(alloc, words, reads, writes, input)?;
-    let wanted = wanted.replace(alloc, "^", "\n")?;
+fn run_line(rt: &impl Abort, alloc: Global, line: &str) {
+    let (words, reads, writes, input, wanted) = parts(line).expect(rt, "five parts");
+    let found = outcome_of(alloc, words, reads, writes, input).expect(rt, "memory");
+    let wanted = wanted.replace(alloc, "^", "\n").expect(rt, "memory");
     expect(rt, line, found.as_str(), wanted.as_str());
-    Ok(())
 }
 
 #[test]
-fn statuses(rt: HostRuntime) -> Result<(), Fail> {
+fn statuses(rt: HostRuntime) {
     for line in STATUSES.lines() {
-        run_line(&rt, rt.alloc(), line)?;
+        run_line(&rt, rt.alloc(), line);
     }
-    Ok(())
 }
 
-#[test]
-fn longest_input(rt: HostRuntime) -> Result<(), Fail> {
-    let alloc = rt.alloc();
-    let rows = [
-        (16_777_216, 3, "bad script: not json\n"),
-        (16_777_217, 7, "script too long\n"),
-    ];
-    for (count, status, text) in rows {
-        let spaces = vec![in alloc; b' '; count]?;
+/// How many spaces a script is, and the status and the text of its run.
+const LENGTHS: &str = r#"16777216 3 Ok("bad script: not json\n")
+16777217 7 Ok("script too long\n")"#;
+
+struct Lengths;
+
+impl Subject for Lengths {
+    fn found(alloc: Global, count: &str) -> Result<String, Error> {
+        let spaces = vec![in alloc; b' '; count.parse::<u32>().unwrap_or(0) as usize]?;
+        let words = vec![in alloc; String::from_str(alloc, "run")?]?;
         let mut source = MemSource::new(spaces, 4096, Vec::new(alloc));
         let mut sink = MemSink::new(alloc, 4096, Vec::new(alloc));
-        let words = vec![in alloc; String::from_str(alloc, "run")?]?;
-        let finished = run_program(alloc, words.as_slice(), &mut source, &mut sink);
-        assert_eq!(rt; finished.status, status);
-        assert_eq!(rt; sink.bytes(), text.as_bytes());
+        let status = run_program(alloc, words.as_slice(), &mut source, &mut sink).status;
+        Ok(format!(in alloc; "{status} {:?}", std::str::from_utf8(sink.bytes()))?)
     }
-    Ok(())
+}
+
+#[test]
+fn longest_input(rt: HostRuntime) {
+    are_found::<Lengths>(&rt, " ", LENGTHS);
 }
 
 /// Scripts that run, each with its status and its lines behind it, a bar behind each.
@@ -177,11 +175,11 @@ impl Subject for Script {
 }
 
 #[test]
-fn runs(rt: HostRuntime) -> Result<(), Fail> {
-    are_found::<Script>(&rt, rt.alloc(), "~", RUNS)
+fn runs(rt: HostRuntime) {
+    are_found::<Script>(&rt, "~", RUNS);
 }
 
 #[test]
-fn files(rt: HostRuntime) -> Result<(), Fail> {
-    are_found::<Script>(&rt, rt.alloc(), "~", FILES)
+fn files(rt: HostRuntime) {
+    are_found::<Script>(&rt, "~", FILES);
 }

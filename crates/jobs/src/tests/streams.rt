@@ -16,7 +16,6 @@ use mg_link::{Action, Error, ErrorKind, ScriptLink, Step, plain};
 use mg_options::{ChangeStreamOptions, ResumeToken, TokenRef};
 use std::alloc::Global;
 use std::process::Abort;
-use std::test::Fail;
 
 /// Each line is a word of a script, and what a command is answered there: batches of the cursors 0, 1 and 2, of nothing, an
 /// event, an event without `_id` and one behind it, the same behind an event, or an item that is no document; a success of
@@ -213,41 +212,35 @@ impl Subject for Runs {
 }
 
 #[test]
-fn streams_to_their_closing(rt: HostRuntime) -> Result<(), Fail> {
-    are_found::<Runs>(&rt, rt.alloc(), "~", RUNS)
+fn streams_to_their_closing(rt: HostRuntime) {
+    are_found::<Runs>(&rt, "~", RUNS);
 }
 
 // Runs a stream that seeks an event in so many more answers of these, and finds none behind so many commands.
-fn is_given_up(
-    rt: &impl Abort,
-    alloc: Global,
-    answers: &str,
-    commands: &str,
-    times: u32,
-) -> Result<(), Fail> {
-    let script = repeated(alloc, "1-", answers, times, " k.")?;
-    let seen = run(alloc, "none", script.as_str(), "n", 0)?;
+fn is_given_up(rt: &impl Abort, alloc: Global, answers: &str, commands: &str, times: u32) {
+    let script = repeated(alloc, "1-", answers, times, " k.").expect(rt, "memory");
+    let seen = run(alloc, "none", script.as_str(), "n", 0).expect(rt, "a run");
     let wanted = repeated(
         alloc,
         "/1000 empty replies in a row/done/aggregate {}",
         commands,
         times,
         r#"/killCursors [{"$int64":"1"}]"#,
-    )?;
+    )
+    .expect(rt, "memory");
     expect(rt, answers, seen.as_str(), wanted.as_str());
-    Ok(())
 }
 
 #[test]
-fn empty_replies_in_a_row(rt: HostRuntime) -> Result<(), Fail> {
-    is_given_up(&rt, rt.alloc(), " 1-", "/getMore 1", 999)
+fn empty_replies_in_a_row(rt: HostRuntime) {
+    is_given_up(&rt, rt.alloc(), " 1-", "/getMore 1", 999);
 }
 
 #[test]
-fn resumptions_without_an_event(rt: HostRuntime) -> Result<(), Fail> {
+fn resumptions_without_an_event(rt: HostRuntime) {
     let commands =
         r#"/getMore 1/aggregate {"startAtOperationTime":{"$timestamp":{"i":1,"t":7}}}/killCursors [{"$int64":"1"}]"#;
-    is_given_up(&rt, rt.alloc(), " l. 1- k.", commands, 1000)
+    is_given_up(&rt, rt.alloc(), " l. 1- k.", commands, 1000);
 }
 
 // ---- tokens of closings
@@ -284,6 +277,6 @@ impl Subject for Handed {
 }
 
 #[test]
-fn tokens_are_handed_over(rt: HostRuntime) -> Result<(), Fail> {
-    are_found::<Handed>(&rt, rt.alloc(), "~", HANDED)
+fn tokens_are_handed_over(rt: HostRuntime) {
+    are_found::<Handed>(&rt, "~", HANDED);
 }

@@ -15,7 +15,6 @@ use mg_ops::WatchArgs;
 use mg_options::{ChangeStreamOptions, ResumeToken};
 use mg_store::{MemLink, may_go_aside};
 use std::alloc::{AllocError, Global};
-use std::test::Fail;
 
 // ---- streams over a store in memory
 
@@ -145,8 +144,8 @@ impl Subject for Dropped {
 
 // A drop is seen by all whom it concerns; only the stream of the collection sees an invalidate entry, and is over.
 #[test]
-fn drop_invalidates(rt: HostRuntime) -> Result<(), Fail> {
-    are_found::<Dropped>(&rt, rt.alloc(), "~", DROPPED)
+fn drop_invalidates(rt: HostRuntime) {
+    are_found::<Dropped>(&rt, "~", DROPPED);
 }
 
 // The token behind the invalidate entry, as a start.
@@ -187,8 +186,8 @@ impl Subject for Behind {
 }
 
 #[test]
-fn starts_behind_an_invalidate(rt: HostRuntime) -> Result<(), Fail> {
-    are_found::<Behind>(&rt, rt.alloc(), "~", BEHIND)
+fn starts_behind_an_invalidate(rt: HostRuntime) {
+    are_found::<Behind>(&rt, "~", BEHIND);
 }
 
 // ---- streams in a session
@@ -274,6 +273,6 @@ impl Subject for Followed {
 }
 
 #[test]
-fn streams_in_a_session(rt: HostRuntime) -> Result<(), Fail> {
-    are_found::<Followed>(&rt, rt.alloc(), "~", FOLLOWED)
+fn streams_in_a_session(rt: HostRuntime) {
+    are_found::<Followed>(&rt, "~", FOLLOWED);
 }

@@ -1,4 +1,4 @@
-use super::{Subject, are_found, bytes_of, expect};
+use super::{Subject, are_found, copied, document_at};
 use crate::{bytes_at, json_value, one_field, parted, with};
 use mg_bson::{
     Binary, Bson, BsonError, Document, Malformation, ObjectId, RawDocument, RawDocumentBuf,
@@ -6,7 +6,7 @@ use mg_bson::{
 };
 use mg_link::Error;
 use std::alloc::{AllocError, Global};
-use std::test::Fail;
+use std::fmt::Debug;
 
 // A document for each kind, a line each: its bytes, and how its value of the name `x` prints.
 const VECTORS: &str = "\
@@ -367,16 +367,10 @@ const PARTED_NAMES: &str = "\
 280000000a6e6e6e6e6e6e6e6e6e6e6e6e6e6e6e6e6e6e6e6e6e6e6e6e6e6e6e6e6e6e6e 0000
 ";
 
-// The document of these bytes.
-fn document_of(alloc: Global, bytes: Vec<u8>) -> Result<Document, BsonError> {
-    let raw = RawDocumentBuf::from_bytes(bytes)?;
-    to_document(alloc, raw.as_raw())
-}
-
 // The hexadecimal digits of the bytes of a document.
-fn digits_of(alloc: Global, document: &Document) -> Result<String, BsonError> {
-    let bytes = bytes_of(alloc, document)?;
-    Ok(hex::encode(alloc, bytes)?)
+fn digits_of(alloc: Global, document: &Document) -> Result<String, Error> {
+    let bytes = to_bytes(alloc, document)?;
+    Ok(hex::encode(alloc, bytes.as_bytes())?)
 }
 
 struct Vectors;
@@ -384,8 +378,7 @@ struct Vectors;
 impl Subject for Vectors {
     // How the value of the name `x` prints, how long its document is, and its digits where these are others.
     fn found(alloc: Global, digits: &str) -> Result<String, Error> {
-        let bytes = bytes_at(alloc, digits)?;
-        let document = document_of(alloc, bytes)?;
+        let document = document_at(alloc, digits)?;
         let written = digits_of(alloc, &document)?;
         let len = document.encoded_len()?.saturating_mul(2);
         if written.as_str() == digits && len == digits.len() {
@@ -397,15 +390,14 @@ impl Subject for Vectors {
 }
 
 #[test]
-fn encoding_vectors(rt: HostRuntime) -> Result<(), Fail> {
-    are_found::<Vectors>(&rt, rt.alloc(), " ", VECTORS)
+fn encoding_vectors(rt: HostRuntime) {
+    are_found::<Vectors>(&rt, " ", VECTORS);
 }
 
 // The digits of a document that is read, copied and written again.
 fn rewritten(alloc: Global, digits: &str) -> Result<String, Error> {
-    let document = document_of(alloc, bytes_at(alloc, digits)?)?;
-    let copy = document.clone()?;
-    Ok(digits_of(alloc, &copy)?)
+    let copy = copied(document_at(alloc, digits)?)?;
+    digits_of(alloc, &copy)
 }
 
 /// What a document is written as that was read and copied, where that is not as it was read.
@@ -438,8 +430,8 @@ impl Subject for Renamed {
 }
 
 #[test]
-fn renamed_items(rt: HostRuntime) -> Result<(), Fail> {
-    are_found::<Renamed>(&rt, rt.alloc(), "\n", RENAMED)
+fn renamed_items(rt: HostRuntime) {
+    are_found::<Renamed>(&rt, "\n", RENAMED);
 }
 
 /// Whether bytes are taken for a document, lent or kept, where they are.
@@ -457,8 +449,8 @@ impl Subject for Refused {
 }
 
 #[test]
-fn damaged_bytes(rt: HostRuntime) -> Result<(), Fail> {
-    are_found::<Refused>(&rt, rt.alloc(), "\n", DAMAGED)
+fn damaged_bytes(rt: HostRuntime) {
+    are_found::<Refused>(&rt, "\n", DAMAGED);
 }
 
 // The place and the reason of the first fault of bytes.
@@ -479,8 +471,21 @@ impl Subject for Faults {
 }
 
 #[test]
-fn places_of_faults(rt: HostRuntime) -> Result<(), Fail> {
-    are_found::<Faults>(&rt, rt.alloc(), " -> ", FAULTS)
+fn places_of_faults(rt: HostRuntime) {
+    are_found::<Faults>(&rt, " -> ", FAULTS);
+}
+
+// Puts behind a text what is found where this stands between the two parts of a line.
+fn put_between<S: Subject>(
+    alloc: Global,
+    line: &str,
+    middle: &str,
+    text: &mut String,
+) -> Result<(), Error> {
+    let (front, behind) = parted(line);
+    let whole = format!(in alloc; "{front}{middle}{behind}")?;
+    let found = S::found(alloc, whole.as_str())?;
+    Ok(text.push_str(found.as_str())?)
 }
 
 struct PartedNames;
@@ -488,20 +493,17 @@ struct PartedNames;
 impl Subject for PartedNames {
     // With its letter whole a name is kept, and with half of it no document is there.
     fn found(alloc: Global, line: &str) -> Result<String, Error> {
-        let (front, behind) = parted(line);
-        let whole = format!(in alloc; "{front}c3a9{behind}")?;
-        let cut_short = format!(in alloc; "{front}c36e{behind}")?;
-        let stray = format!(in alloc; "{front}6ea9{behind}")?;
-        let kept = Kept::found(alloc, whole.as_str())?;
-        let first = Refused::found(alloc, cut_short.as_str())?;
-        let second = Refused::found(alloc, stray.as_str())?;
-        Ok(format!(in alloc; "{kept}{first}{second}")?)
+        let mut text = String::new(alloc);
+        put_between::<Kept>(alloc, line, "c3a9", &mut text)?;
+        put_between::<Refused>(alloc, line, "c36e", &mut text)?;
+        put_between::<Refused>(alloc, line, "6ea9", &mut text)?;
+        Ok(text)
     }
 }
 
 #[test]
-fn letters_in_names(rt: HostRuntime) -> Result<(), Fail> {
-    are_found::<PartedNames>(&rt, rt.alloc(), "\n", PARTED_NAMES)
+fn letters_in_names(rt: HostRuntime) {
+    are_found::<PartedNames>(&rt, "\n", PARTED_NAMES);
 }
 
 // The bytes of the document of so many levels, each but the first in a value of the kind: a document, an array or code
@@ -528,10 +530,10 @@ fn nested_bytes(alloc: Global, kind: u8, levels: u32) -> Result<Vec<u8>, BsonErr
 
 // Whether a document of 100 levels is written as it was read, why one of 101 is not written and has no length, and why and
 // where it is not read.
-fn levels_of(alloc: Global, kind: u8) -> Result<String, BsonError> {
-    let bytes = nested_bytes(alloc, kind, 100)?;
-    let deepest = document_of(alloc, bytes.clone()?)?;
-    let is_same = to_bytes(alloc, &deepest)?.as_bytes() == bytes.as_slice();
+fn levels_of(alloc: Global, kind: u8) -> Result<String, Error> {
+    let raw = RawDocumentBuf::from_bytes(nested_bytes(alloc, kind, 100)?)?;
+    let deepest = to_document(alloc, raw.as_raw())?;
+    let is_same = to_bytes(alloc, &deepest)? == raw;
     let deeper = faults_of(alloc, "0", Bson::Document(deepest))?;
     let too_deep = nested_bytes(alloc, kind, 101)?;
     let fault = fault_of(alloc, &too_deep)?;
@@ -548,13 +550,13 @@ struct Levels;
 
 impl Subject for Levels {
     fn found(alloc: Global, kind: &str) -> Result<String, Error> {
-        Ok(levels_of(alloc, kind.parse::<u8>().unwrap_or(0))?)
+        levels_of(alloc, kind.parse::<u8>().unwrap_or(0))
     }
 }
 
 #[test]
-fn limits_of_levels(rt: HostRuntime) -> Result<(), Fail> {
-    are_found::<Levels>(&rt, rt.alloc(), " -> ", LEVELS)
+fn limits_of_levels(rt: HostRuntime) {
+    are_found::<Levels>(&rt, " -> ", LEVELS);
 }
 
 /// How many bytes a binary has, and why its document is not written, and has no length. It takes 13 bytes more.
@@ -572,12 +574,12 @@ impl Subject for Sizes {
 }
 
 #[test]
-fn limits_of_size(rt: HostRuntime) -> Result<(), Fail> {
-    are_found::<Sizes>(&rt, rt.alloc(), " -> ", SIZES)
+fn limits_of_size(rt: HostRuntime) {
+    are_found::<Sizes>(&rt, " -> ", SIZES);
 }
 
 // Why a document of one field is not written, and why it has no length.
-fn faults_of(alloc: Global, name: &str, value: Bson) -> Result<[Option<BsonError>; 2], BsonError> {
+fn faults_of(alloc: Global, name: &str, value: Bson) -> Result<[Option<BsonError>; 2], Error> {
     let document = one_field(alloc, name, value)?;
     Ok([
         to_bytes(alloc, &document).err(),
@@ -592,23 +594,27 @@ fn bad_regex(alloc: Global) -> Result<Bson, BsonError> {
     Ok(Bson::Regex(Box::new(alloc, Regex { pattern, options })?))
 }
 
-// Why neither a bad name nor a bad pattern is written or has a length.
-fn faults_of_zeros(alloc: Global) -> Result<String, BsonError> {
-    let name = faults_of(alloc, "a\0b", Bson::Null)?;
-    let pattern = faults_of(alloc, "x", bad_regex(alloc)?)?;
-    Ok(format!(in alloc; "{name:?} {pattern:?} {}", BsonError::BadName)?)
+/// Why neither a bad name nor a bad pattern is written or has a length, and what that prints as.
+const ZEROS: &str = "name -> [Some(BadName), Some(BadName)]
+pattern -> [Some(BadName), Some(BadName)]
+printed -> BadName";
+
+struct Zeros;
+
+impl Subject for Zeros {
+    fn found(alloc: Global, about: &str) -> Result<String, Error> {
+        let faults = match about {
+            "name" => faults_of(alloc, "a\0b", Bson::Null)?,
+            "pattern" => faults_of(alloc, "x", bad_regex(alloc)?)?,
+            _ => return Ok(format!(in alloc; "{}", BsonError::BadName)?),
+        };
+        Ok(format!(in alloc; "{faults:?}")?)
+    }
 }
 
 #[test]
-fn bad_names(rt: HostRuntime) -> Result<(), Fail> {
-    let found = faults_of_zeros(rt.alloc())?;
-    expect(
-        &rt,
-        "zeros",
-        found.as_str(),
-        "[Some(BadName), Some(BadName)] [Some(BadName), Some(BadName)] BadName",
-    );
-    Ok(())
+fn bad_names(rt: HostRuntime) {
+    are_found::<Zeros>(&rt, " -> ", ZEROS);
 }
 
 // Texts, and the object ids that they are, with their digits and as they print.
@@ -634,8 +640,8 @@ impl Subject for Ids {
 }
 
 #[test]
-fn object_ids(rt: HostRuntime) -> Result<(), Fail> {
-    are_found::<Ids>(&rt, rt.alloc(), " ", IDS)
+fn object_ids(rt: HostRuntime) {
+    are_found::<Ids>(&rt, " ", IDS);
 }
 
 // The document `{ a: 1, b: [7, "s"], a: 2 }`.
@@ -645,30 +651,46 @@ fn sample(alloc: Global) -> Result<Document, Error> {
     Ok(with(document, "a", Bson::Int32(2))?)
 }
 
-// What stood in the place of a value, what stood where a name is new, what is taken out by its name, the first name behind that,
-// and what is left.
-fn changed(alloc: Global) -> Result<String, Error> {
-    let mut document = sample(alloc)?;
-    let replaced = format!(in alloc; "{:?}", document.insert("a", Bson::Int64(3))?)?;
-    let added = format!(in alloc; "{:?}", document.insert("c", Bson::Null)?)?;
-    let removed = format!(in alloc; "{:?}", document.remove("a"))?;
-    let first = document.keys().next();
-    Ok(format!(in alloc; "{replaced} {added} {removed} {first:?} {document:?}")?)
+// Puts behind a text what a value prints as.
+fn put<T: Debug + Drop>(text: &mut String, value: T) -> Result<(), AllocError> {
+    write!(text, "{value:?} ")
 }
 
-// The list of the name `b` in a copy of the bytes, by copies of what these lend.
-fn list_of_b(alloc: Global) -> Result<String, Error> {
+// What stood in the place of a value, what stood where a name is new, what is taken out by its name, the first name behind that,
+// and what is left.
+fn put_changes(document: &mut Document, text: &mut String) -> Result<(), BsonError> {
+    put(text, document.insert("a", Bson::Int64(3))?)?;
+    put(text, document.insert("c", Bson::Null)?)?;
+    put(text, document.remove("a"))?;
+    put(text, document.keys().next())?;
+    Ok(write!(text, "{document:?}")?)
+}
+
+fn changed(alloc: Global) -> Result<String, Error> {
+    let mut document = sample(alloc)?;
+    let mut text = String::new(alloc);
+    put_changes(&mut document, &mut text)?;
+    Ok(text)
+}
+
+// The list of the name `b`, by copies of what is lent.
+fn list_in(alloc: Global, document: &RawDocument<'_>) -> Result<Bson, BsonError> {
+    let lent = document.clone()?;
+    match &lent.get("b") {
+        Some(RawValue::Array(list)) => RawValue::Array(list.clone()?).to_value(alloc),
+        _ => Ok(Bson::Null),
+    }
+}
+
+// A copy of the bytes.
+fn copied_bytes(alloc: Global) -> Result<RawDocumentBuf, Error> {
     let raw = to_bytes(alloc, &sample(alloc)?)?;
-    let kept = raw.as_raw().to_buf(alloc)?;
-    let lent = kept.as_raw().clone()?;
-    let Some(value) = lent.get("b") else {
-        return Ok(String::new(alloc));
-    };
-    let Some(list) = value.as_array() else {
-        return Ok(String::new(alloc));
-    };
-    let copy = RawValue::Array(list.clone()?).to_value(alloc)?;
-    Ok(format!(in alloc; "{copy:?}")?)
+    Ok(raw.as_raw().to_buf(alloc)?)
+}
+
+fn list_of_b(alloc: Global) -> Result<String, Error> {
+    let list = list_in(alloc, &copied_bytes(alloc)?.as_raw())?;
+    Ok(format!(in alloc; "{list:?}")?)
 }
 
 /// Changes and copies of a document, and what comes of them.
@@ -688,6 +710,6 @@ impl Subject for Samples {
 }
 
 #[test]
-fn changes_of_a_document(rt: HostRuntime) -> Result<(), Fail> {
-    are_found::<Samples>(&rt, rt.alloc(), "~", SAMPLES)
+fn changes_of_a_document(rt: HostRuntime) {
+    are_found::<Samples>(&rt, "~", SAMPLES);
 }

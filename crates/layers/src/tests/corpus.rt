@@ -1,6 +1,5 @@
 use super::are_found;
 use super::bson::{Kept, Refused, Renamed};
-use std::test::Fail;
 
 // Cases of the BSON corpus, `bson-corpus/tests` of MongoDB's specifications: the bytes, and behind them the file and the
 // case's description there. Of cases that differ in Extended JSON alone the first stands here. `docs/DIFFERENCES.md` names
@@ -270,21 +269,21 @@ const KEPT: &str = "\
 ";
 
 #[test]
-fn canonical_documents(rt: HostRuntime) -> Result<(), Fail> {
-    are_found::<Kept>(&rt, rt.alloc(), "\n", CANONICAL)
+fn canonical_documents(rt: HostRuntime) {
+    are_found::<Kept>(&rt, "\n", CANONICAL);
 }
 
 #[test]
-fn degenerate_arrays(rt: HostRuntime) -> Result<(), Fail> {
-    are_found::<Renamed>(&rt, rt.alloc(), "\n", DEGENERATE)
+fn degenerate_arrays(rt: HostRuntime) {
+    are_found::<Renamed>(&rt, "\n", DEGENERATE);
 }
 
 #[test]
-fn refused_bytes(rt: HostRuntime) -> Result<(), Fail> {
-    are_found::<Refused>(&rt, rt.alloc(), "\n", REFUSED)
+fn refused_bytes(rt: HostRuntime) {
+    are_found::<Refused>(&rt, "\n", REFUSED);
 }
 
 #[test]
-fn kept_documents(rt: HostRuntime) -> Result<(), Fail> {
-    are_found::<Kept>(&rt, rt.alloc(), "\n", KEPT)
+fn kept_documents(rt: HostRuntime) {
+    are_found::<Kept>(&rt, "\n", KEPT);
 }

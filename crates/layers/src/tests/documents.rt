@@ -1,13 +1,9 @@
-use super::{Subject, are_found};
-use crate::{bytes_at, json_value, one_field, parted, with};
-use mg_bson::{
-    Bson, DateTime, Document, ObjectId, RawDocument, RawDocumentBuf, RawValue, to_bytes,
-    to_document,
-};
+use super::{Subject, are_found, document_at, raw_at};
+use crate::{json_value, one_field, parted, with};
+use mg_bson::{Bson, DateTime, Document, ObjectId, RawDocument, RawValue, to_bytes};
 use mg_link::Error;
-use std::alloc::{AllocError, Global};
+use std::alloc::Global;
 use std::fmt::Debug;
-use std::test::Fail;
 
 // A document, the reader and the name, and what it finds.
 const READERS: &str = "\
@@ -34,17 +30,12 @@ const READERS: &str = "\
 0500000000 document x -> Err(NotPresent)
 ";
 
-fn shown<T: Debug + Drop>(alloc: Global, found: T) -> Result<String, AllocError> {
-    format!(in alloc; "{found:?}")
+fn shown<T: Debug + Drop>(alloc: Global, found: T) -> Result<String, Error> {
+    Ok(format!(in alloc; "{found:?}")?)
 }
 
 // How what the reader finds prints.
-fn found_by(
-    alloc: Global,
-    reader: &str,
-    document: &Document,
-    name: &str,
-) -> Result<String, AllocError> {
+fn found_by(alloc: Global, reader: &str, document: &Document, name: &str) -> Result<String, Error> {
     match reader {
         "double" => shown(alloc, document.get_double(name)),
         "str" => shown(alloc, document.get_str(name)),
@@ -59,7 +50,7 @@ fn found_by(
         "i64" => shown(alloc, document.get_i64(name)),
         "decimal128" => shown(alloc, document.get_decimal128(name)),
         "null" => shown(alloc, document.is_null(name)),
-        _ => String::from_str(alloc, reader),
+        _ => shown(alloc, reader),
     }
 }
 
@@ -69,15 +60,13 @@ impl Subject for Readers {
     fn found(alloc: Global, line: &str) -> Result<String, Error> {
         let (digits, rest) = parted(line);
         let (reader, name) = parted(rest);
-        let raw = RawDocumentBuf::from_bytes(bytes_at(alloc, digits)?)?;
-        let document = to_document(alloc, raw.as_raw())?;
-        Ok(found_by(alloc, reader, &document, name)?)
+        found_by(alloc, reader, &document_at(alloc, digits)?, name)
     }
 }
 
 #[test]
-fn readers_by_kind(rt: HostRuntime) -> Result<(), Fail> {
-    are_found::<Readers>(&rt, rt.alloc(), " -> ", READERS)
+fn readers_by_kind(rt: HostRuntime) {
+    are_found::<Readers>(&rt, " -> ", READERS);
 }
 
 // A document, the reader, and what it lends of the value `x`.
@@ -95,14 +84,14 @@ const LENDERS: &str = "\
 ";
 
 // How what the reader lends prints.
-fn lent_by(alloc: Global, reader: &str, value: &RawValue<'_>) -> Result<String, AllocError> {
+fn lent_by(alloc: Global, reader: &str, value: &RawValue<'_>) -> Result<String, Error> {
     match reader {
         "double" => shown(alloc, value.as_double()),
         "binary" => shown(alloc, value.as_binary()),
         "object_id" => shown(alloc, value.as_object_id()),
         "decimal128" => shown(alloc, value.as_decimal128()),
         "null" => shown(alloc, value.is_null()),
-        _ => String::from_str(alloc, reader),
+        _ => shown(alloc, reader),
     }
 }
 
@@ -111,17 +100,17 @@ struct Lenders;
 impl Subject for Lenders {
     fn found(alloc: Global, line: &str) -> Result<String, Error> {
         let (digits, reader) = parted(line);
-        let raw = RawDocumentBuf::from_bytes(bytes_at(alloc, digits)?)?;
+        let raw = raw_at(alloc, digits)?;
         match raw.as_raw().get("x") {
-            Some(value) => Ok(lent_by(alloc, reader, &value)?),
+            Some(value) => lent_by(alloc, reader, &value),
             None => Ok(String::new(alloc)),
         }
     }
 }
 
 #[test]
-fn lent_by_kind(rt: HostRuntime) -> Result<(), Fail> {
-    are_found::<Lenders>(&rt, rt.alloc(), " -> ", LENDERS)
+fn lent_by_kind(rt: HostRuntime) {
+    are_found::<Lenders>(&rt, " -> ", LENDERS);
 }
 
 // A document of plain values.
@@ -138,7 +127,7 @@ fn plain(alloc: Global) -> Result<Document, Error> {
 }
 
 // The names and values in order, and the values of the arrays among them.
-fn listed(alloc: Global, document: &Document) -> Result<String, AllocError> {
+fn listed(alloc: Global, document: &Document) -> Result<String, Error> {
     let mut text = String::new(alloc);
     for (name, value) in document {
         text.push_str(format!(in alloc; "{name}={value:?};")?.as_str())?;
@@ -152,7 +141,7 @@ fn listed(alloc: Global, document: &Document) -> Result<String, AllocError> {
 }
 
 // The same of the bytes.
-fn listed_raw(alloc: Global, document: &RawDocument<'_>) -> Result<String, AllocError> {
+fn listed_raw(alloc: Global, document: &RawDocument<'_>) -> Result<String, Error> {
     let mut text = String::new(alloc);
     for (name, _) in document {
         text.push_str(name)?;
@@ -187,10 +176,10 @@ struct GoneThrough;
 impl Subject for GoneThrough {
     fn found(alloc: Global, line: &str) -> Result<String, Error> {
         match line {
-            "document" => Ok(listed(alloc, &plain(alloc)?)?),
+            "document" => listed(alloc, &plain(alloc)?),
             "bytes" => {
                 let raw = to_bytes(alloc, &plain(alloc)?)?;
-                Ok(listed_raw(alloc, &raw.as_raw())?)
+                listed_raw(alloc, &raw.as_raw())
             }
             _ => changed(alloc),
         }
@@ -198,6 +187,6 @@ impl Subject for GoneThrough {
 }
 
 #[test]
-fn gone_through_in_order(rt: HostRuntime) -> Result<(), Fail> {
-    are_found::<GoneThrough>(&rt, rt.alloc(), "~", GONE_THROUGH)
+fn gone_through_in_order(rt: HostRuntime) {
+    are_found::<GoneThrough>(&rt, "~", GONE_THROUGH);
 }

@@ -1,10 +1,7 @@
-use super::{Subject, are_found};
-use crate::bytes_at;
-use mg_bson::RawDocumentBuf;
+use super::{Subject, are_found, raw_at};
 use mg_link::Error;
 use mg_script::json_text;
 use std::alloc::Global;
-use std::test::Fail;
 
 /// A document for each kind, a line each: its bytes, and its value of the name `x` as JSON.
 const VALUES: &str = r#"10000000017800000000000000f03f00 {"$double":"000000000000f03f"}
@@ -35,7 +32,7 @@ struct Values;
 
 impl Subject for Values {
     fn found(alloc: Global, digits: &str) -> Result<String, Error> {
-        let raw = RawDocumentBuf::from_bytes(bytes_at(alloc, digits)?)?;
+        let raw = raw_at(alloc, digits)?;
         match raw.as_raw().get("x") {
             Some(value) => json_text(alloc, &value.to_value(alloc)?),
             None => Ok(String::new(alloc)),
@@ -44,6 +41,6 @@ impl Subject for Values {
 }
 
 #[test]
-fn values_as_json(rt: HostRuntime) -> Result<(), Fail> {
-    are_found::<Values>(&rt, rt.alloc(), " ", VALUES)
+fn values_as_json(rt: HostRuntime) {
+    are_found::<Values>(&rt, " ", VALUES);
 }

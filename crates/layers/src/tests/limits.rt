@@ -1,10 +1,9 @@
-use super::{Subject, are_found, expect};
+use super::{Subject, are_found};
 use crate::{json_value, one_field, parted, repeated, text, with, with_text};
 use mg_bson::{Array, Bson, BsonError, Document, RawDocument, to_bytes};
-use mg_link::{Error, Namespace};
+use mg_link::{Error, Namespace, OutOfMemory};
 use mg_store::Store;
 use std::alloc::{AllocError, Global};
-use std::test::Fail;
 
 // A text that brings a document to so many bytes, of which so many stand beside it.
 fn padding(alloc: Global, bytes: u32, beside: u32) -> Result<String, AllocError> {
@@ -144,8 +143,8 @@ impl Subject for Names {
 }
 
 #[test]
-fn names_have_65536_bytes_at_most(rt: HostRuntime) -> Result<(), Fail> {
-    are_found::<Names>(&rt, rt.alloc(), " -> ", NAMES)
+fn names_have_65536_bytes_at_most(rt: HostRuntime) {
+    are_found::<Names>(&rt, " -> ", NAMES);
 }
 
 // A store of so many documents of so many bytes.
@@ -199,8 +198,8 @@ impl Subject for BatchSizes {
 }
 
 #[test]
-fn batches_are_cut(rt: HostRuntime) -> Result<(), Fail> {
-    are_found::<BatchSizes>(&rt, rt.alloc(), " -> ", BATCHES)
+fn batches_are_cut(rt: HostRuntime) {
+    are_found::<BatchSizes>(&rt, " -> ", BATCHES);
 }
 
 // A command that kills the cursors with the first so many ids.
@@ -233,8 +232,8 @@ impl Subject for Killed {
 }
 
 #[test]
-fn replies_have_47_million_bytes_at_most(rt: HostRuntime) -> Result<(), Fail> {
-    are_found::<Killed>(&rt, rt.alloc(), " -> ", KILLED)
+fn replies_have_47_million_bytes_at_most(rt: HostRuntime) {
+    are_found::<Killed>(&rt, " -> ", KILLED);
 }
 
 // A document of so many levels.
@@ -309,8 +308,8 @@ impl Subject for Levels {
 }
 
 #[test]
-fn levels_of_what_is_stored(rt: HostRuntime) -> Result<(), Fail> {
-    are_found::<Levels>(&rt, rt.alloc(), " -> ", LEVELS)
+fn levels_of_what_is_stored(rt: HostRuntime) {
+    are_found::<Levels>(&rt, " -> ", LEVELS);
 }
 
 // A command that makes a document or an index of so many bytes, or the collection.
@@ -333,49 +332,54 @@ fn sized_command(alloc: Global, name: &str, bytes: u32) -> Result<Document, Bson
     }
 }
 
-// What a command is answered, how many changes there are then, and how many bytes the last document of a collection has.
-fn answered(
-    alloc: Global,
-    store: &mut Store,
-    command: &Document,
-    ns: &Namespace,
-) -> Result<String, Error> {
-    let answer = answer_to(alloc, store, command)?;
+// How many bytes the last document of a collection has.
+fn last_bytes(store: &Store, ns: &Namespace) -> Result<usize, OutOfMemory> {
+    match store.documents(ns)?.last() {
+        Some(document) => Ok(document.as_bytes().len()),
+        None => Ok(0),
+    }
+}
+
+// What a command is answered, how many changes there are then, and how many bytes the last document of the collection has.
+fn answered(alloc: Global, store: &mut Store, command: &str) -> Result<String, Error> {
+    let (name, bytes) = parted(command);
+    let command = sized_command(alloc, name, number_of(bytes))?;
+    let answer = answer_to(alloc, store, &command)?;
+    let db = String::from_str(alloc, "app")?;
+    let coll = String::from_str(alloc, "c")?;
+    let bytes = last_bytes(store, &Namespace { db, coll })?;
     let changes = store.changes().len();
-    let documents = store.documents(ns)?;
-    let bytes = match documents.as_slice().last() {
-        Some(document) => document.as_bytes().len(),
-        None => 0,
-    };
     Ok(format!(in alloc; "{answer}, {changes} changes, {bytes} bytes")?)
 }
 
 // What a list says of an index has 40 bytes beside its name.
-const SIZES: [(&str, u32, &str); 11] = [
-    ("index", 16777217, "refused 9, 0 changes, 0 bytes"),
-    ("create", 0, "done, 0 changes, 0 bytes"),
-    ("index", 16777216, "done, 0 changes, 0 bytes"),
-    ("insert", 16777217, "a write error, 0 changes, 0 bytes"),
-    ("insert", 16777216, "done, 1 changes, 16777216 bytes"),
-    ("replace", 22, "done, 2 changes, 22 bytes"),
-    ("replace", 16777217, "refused 9, 2 changes, 22 bytes"),
-    ("replace", 16777216, "done, 3 changes, 16777216 bytes"),
-    ("set", 16777217, "refused 9, 3 changes, 16777216 bytes"),
-    ("replace", 22, "done, 4 changes, 22 bytes"),
-    ("set", 16777216, "done, 5 changes, 16777216 bytes"),
-];
+const SIZES: &str = "index 16777217 -> refused 9, 0 changes, 0 bytes
+create 0 -> done, 0 changes, 0 bytes
+index 16777216 -> done, 0 changes, 0 bytes
+insert 16777217 -> a write error, 0 changes, 0 bytes
+insert 16777216 -> done, 1 changes, 16777216 bytes
+replace 22 -> done, 2 changes, 22 bytes
+replace 16777217 -> refused 9, 2 changes, 22 bytes
+replace 16777216 -> done, 3 changes, 16777216 bytes
+set 16777217 -> refused 9, 3 changes, 16777216 bytes
+replace 22 -> done, 4 changes, 22 bytes
+set 16777216 -> done, 5 changes, 16777216 bytes
+";
+
+// What these commands to one store come to, a line each.
+fn sizes(alloc: Global) -> Result<String, Error> {
+    let mut store = Store::new(alloc);
+    let mut lines = String::new(alloc);
+    for line in SIZES.lines() {
+        let (command, _) = line.split_once(" -> ").unwrap_or((line, ""));
+        let found = answered(alloc, &mut store, command)?;
+        write!(lines, "{command} -> {found}\n")?;
+    }
+    Ok(lines)
+}
 
 #[test]
-fn sizes_of_what_is_stored(rt: HostRuntime) -> Result<(), Fail> {
-    let alloc = rt.alloc();
-    let Some(ns) = Namespace::from_str(alloc, "app.c")? else {
-        return Err(Fail::from("it is a namespace"));
-    };
-    let mut store = Store::new(alloc);
-    for (name, bytes, wanted) in SIZES {
-        let command = sized_command(alloc, name, bytes)?;
-        let found = answered(alloc, &mut store, &command, &ns)?;
-        expect(&rt, name, found.as_str(), wanted);
-    }
-    Ok(())
+fn sizes_of_what_is_stored(rt: HostRuntime) {
+    let found = sizes(rt.alloc()).expect(&rt, "an answer");
+    assert_eq!(rt; found.as_str(), SIZES);
 }

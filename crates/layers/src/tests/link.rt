@@ -1,70 +1,109 @@
 use super::{Subject, are_found};
 use crate::parted;
-use mg_bson::{Bson, BsonError, Document, ObjectId, to_bytes};
+use mg_bson::{Bson, BsonError, Document, to_bytes};
 use mg_link::{
     BadArgument, CommandError, CountedIds, Error, ErrorKind, GridFsErrorKind, GridFsFileIdentifier,
-    IdSource, IndexedFailure, InputError, Labels, Log, LoggedCall, Malformed, MemSink, MemSource,
-    Mismatch, Namespace, OperationTarget, Receipt, Seen, Sink, Source, StdSink, StdSource,
-    WriteFailed, WriteFailure, plain, read_all, write_all,
+    IdSource, IndexedFailure, Labels, Log, LoggedCall, Malformed, MemSink, MemSource, Mismatch,
+    Namespace, OperationTarget, Receipt, Seen, Sink, Source, StdSink, StdSource, WriteFailure,
+    plain, read_all, write_all,
 };
 use std::alloc::{AllocError, Global};
-use std::test::Fail;
 
-// What a read, a read to the end that meets a fault, and one behind it give.
-fn read_thrice(alloc: Global) -> Result<String, AllocError> {
+// What a read, a read to the end, and one behind it give.
+fn reads<S: Source>(alloc: Global, source: &mut S, buf: &mut [u8]) -> Result<String, AllocError> {
+    let first = source.read(buf);
+    let second = read_all(alloc, source);
+    let third = read_all(alloc, source);
+    format!(in alloc; "/{first:?}/{second:?}/{third:?}")
+}
+
+// What the write of each word gives.
+fn writes<K: Sink>(alloc: Global, sink: &mut K, words: &str) -> Result<String, AllocError> {
+    let mut told = String::new(alloc);
+    for word in words.split(' ') {
+        let wrote = write_all(sink, word.as_bytes());
+        write!(told, "/{wrote:?}")?;
+    }
+    Ok(told)
+}
+
+// A source in memory, whose second read meets a fault.
+fn memory_reads(alloc: Global) -> Result<String, AllocError> {
     let bytes = Vec::from_slice(alloc, b"hello")?;
     let failing = Vec::from_slice(alloc, &[1])?;
-    let mut source = MemSource::new(bytes, 2, failing);
     let mut buf = [0u8; 4];
-    let first = source.read(&mut buf);
-    let is_fault = matches!(read_all(alloc, &mut source), Err(InputError::Fault));
-    let rest = read_all(alloc, &mut source).ok();
-    format!(in alloc; "{first:?} {is_fault} {rest:?}")
+    reads(alloc, &mut MemSource::new(bytes, 2, failing), &mut buf)
 }
 
-// What three writes give, of which the second meets a fault, and what was written.
-fn write_thrice(alloc: Global) -> Result<String, AllocError> {
+fn slice_reads(alloc: Global) -> Result<String, AllocError> {
+    let mut buf = [0u8; 2];
+    reads(alloc, &mut StdSource::new(b"hello".as_slice()), &mut buf)
+}
+
+// A sink in memory, whose fourth write meets a fault, and what was written.
+fn memory_writes(alloc: Global) -> Result<String, AllocError> {
     let failing = Vec::from_slice(alloc, &[3])?;
     let mut sink = MemSink::new(alloc, 2, failing);
-    let first = write_all(&mut sink, b"hello");
-    let second = write_all(&mut sink, b"you");
-    let third = write_all(&mut sink, b"!");
-    format!(in alloc; "{first:?} {second:?} {third:?} {:?}", sink.bytes())
+    let told = writes(alloc, &mut sink, "hello you !")?;
+    format!(in alloc; "{told} {:?}", sink.bytes())
 }
 
-const ENDS: &str = "reads~Ok(2) true Some([108, 108, 111])
-writes~Ok(()) Err(WriteFailed) Ok(()) [104, 101, 108, 108, 111, 33]";
+fn slice_writes(alloc: Global) -> Result<String, AllocError> {
+    let mut room = [0u8; 4];
+    writes(alloc, &mut StdSink::new(room.as_mut_slice()), "hi you")
+}
 
-struct Ends;
+// The first ids behind these bytes.
+fn counted(alloc: Global) -> Result<String, AllocError> {
+    let mut ids = CountedIds::new([1, 2, 3, 4]);
+    let first = ids.next_id();
+    format!(in alloc; "{first} {}", ids.next_id())
+}
 
-impl Subject for Ends {
+// Whether a log is empty, how many calls it has then, and whether a fault was seen of the last.
+fn logged(alloc: Global) -> Result<String, Error> {
+    let mut log = Log::new(alloc);
+    let is_empty = log.is_empty();
+    let command = to_bytes(alloc, &Document::new(alloc))?;
+    log.push(LoggedCall {
+        command,
+        position: Some(0),
+        seen: Seen::Waiting,
+    })?;
+    log.see(0, Seen::Fault);
+    let is_fault = match log.calls().last() {
+        Some(call) => matches!(&call.seen, Seen::Fault),
+        None => false,
+    };
+    Ok(format!(in alloc; "{is_empty} {} {is_fault}", log.len())?)
+}
+
+/// Ends over memory and over slices, ids and a log, and what calls of them give.
+const CALLS: &str = "memory-reads~/Ok(2)/Err(Fault)/Ok([108, 108, 111])
+slice-reads~/Ok(2)/Ok([108, 108, 111])/Ok([])
+memory-writes~/Ok(())/Err(WriteFailed)/Ok(()) [104, 101, 108, 108, 111, 33]
+slice-writes~/Ok(())/Err(WriteFailed)
+ids~010203040000000000000000 010203040000000000000001
+log~true 1 true";
+
+struct Calls;
+
+impl Subject for Calls {
     fn found(alloc: Global, about: &str) -> Result<String, Error> {
-        match about {
-            "reads" => Ok(read_thrice(alloc)?),
-            _ => Ok(write_thrice(alloc)?),
-        }
+        Ok(match about {
+            "memory-reads" => memory_reads(alloc)?,
+            "slice-reads" => slice_reads(alloc)?,
+            "memory-writes" => memory_writes(alloc)?,
+            "slice-writes" => slice_writes(alloc)?,
+            "ids" => counted(alloc)?,
+            _ => return logged(alloc),
+        })
     }
 }
 
 #[test]
-fn ends_over_memory(rt: HostRuntime) -> Result<(), Fail> {
-    are_found::<Ends>(&rt, rt.alloc(), "~", ENDS)
-}
-
-#[test]
-fn ends_over_slices(rt: HostRuntime) -> Result<(), Fail> {
-    let mut source = StdSource::new(b"hello".as_slice());
-    let mut buf = [0u8; 2];
-    assert_eq!(rt; source.read(&mut buf), Ok(2));
-    match read_all(rt.alloc(), &mut source) {
-        Ok(rest) => assert_eq!(rt; rest.as_slice(), b"llo".as_slice()),
-        Err(_) => panic!(rt; "a slice has no faults"),
-    }
-    let mut written = [0u8; 4];
-    let mut sink = StdSink::new(written.as_mut_slice());
-    assert_eq!(rt; write_all(&mut sink, b"hi"), Ok(()));
-    assert_eq!(rt; write_all(&mut sink, b"you"), Err(WriteFailed));
-    Ok(())
+fn what_calls_give(rt: HostRuntime) {
+    are_found::<Calls>(&rt, "~", CALLS);
 }
 
 // Each line is a kind of error, and what it prints as.
@@ -90,6 +129,7 @@ id no file with this id
 name no file named f
 mismatch receipt mismatch: worker 2 position 5
 aborted the upload was aborted, and its chunks could not be removed (the link failed)
+malformed received bytes are no document
 failed the upload failed (a write is going on), and its chunks could not be removed (the link failed)
 ";
 
@@ -113,6 +153,10 @@ fn plain_kind(name: &str) -> ErrorKind {
             actual: 3,
             expected: 4,
         }),
+        "id" => {
+            let id = GridFsFileIdentifier::Id(Bson::Int32(7));
+            ErrorKind::GridFs(GridFsErrorKind::FileNotFound(id))
+        }
         _ => ErrorKind::NoSuchJob(3),
     }
 }
@@ -157,48 +201,83 @@ fn refused(alloc: Global) -> Result<ErrorKind, AllocError> {
     }))
 }
 
-// The kind of this name.
-fn kind_of(alloc: Global, name: &str) -> Result<ErrorKind, BsonError> {
-    Ok(match name {
-        "refused" => refused(alloc)?,
-        "unwritten" => ErrorKind::Write(WriteFailure {
-            code: 9,
-            message: text(alloc)?,
-        }),
-        "uninserted" => ErrorKind::InsertMany(vec![in alloc;
-            IndexedFailure {
-                index: 1,
-                code: 9,
-                message: text(alloc)?
-            },
-        ]?),
-        "id" => {
-            let id = GridFsFileIdentifier::Id(Bson::Int32(7));
-            ErrorKind::GridFs(GridFsErrorKind::FileNotFound(id))
-        }
-        "name" => {
-            let name = GridFsFileIdentifier::Filename(String::from_str(alloc, "f")?);
-            ErrorKind::GridFs(GridFsErrorKind::FileNotFound(name))
-        }
-        "mismatch" => mismatched(alloc)?,
-        "aborted" => chunks_left(alloc, false)?,
-        "failed" => chunks_left(alloc, true)?,
-        _ => plain_kind(name),
-    })
+fn unwritten(alloc: Global) -> Result<ErrorKind, AllocError> {
+    Ok(ErrorKind::Write(WriteFailure {
+        code: 9,
+        message: text(alloc)?,
+    }))
+}
+
+fn uninserted(alloc: Global) -> Result<ErrorKind, AllocError> {
+    let failure = IndexedFailure {
+        index: 1,
+        code: 9,
+        message: text(alloc)?,
+    };
+    Ok(ErrorKind::InsertMany(vec![in alloc; failure]?))
+}
+
+fn nameless_file(alloc: Global) -> Result<ErrorKind, AllocError> {
+    let name = GridFsFileIdentifier::Filename(String::from_str(alloc, "f")?);
+    Ok(ErrorKind::GridFs(GridFsErrorKind::FileNotFound(name)))
+}
+
+// A kind that owns memory.
+fn owned_kind(alloc: Global, name: &str) -> Result<ErrorKind, AllocError> {
+    match name {
+        "refused" => refused(alloc),
+        "unwritten" => unwritten(alloc),
+        "uninserted" => uninserted(alloc),
+        "name" => nameless_file(alloc),
+        "aborted" => chunks_left(alloc, false),
+        "failed" => chunks_left(alloc, true),
+        _ => Ok(plain_kind(name)),
+    }
+}
+
+// The error of this name.
+fn error_of(alloc: Global, name: &str) -> Result<Error, BsonError> {
+    match name {
+        "mismatch" => Ok(plain(mismatched(alloc)?)),
+        "malformed" => Ok(Error::from(BsonError::Malformed)),
+        _ => Ok(plain(owned_kind(alloc, name)?)),
+    }
 }
 
 struct Errors;
 
 impl Subject for Errors {
     fn found(alloc: Global, name: &str) -> Result<String, Error> {
-        let error = plain(kind_of(alloc, name)?);
+        let error = error_of(alloc, name)?;
         Ok(format!(in alloc; "{error}")?)
     }
 }
 
 #[test]
-fn texts_of_errors(rt: HostRuntime) -> Result<(), Fail> {
-    are_found::<Errors>(&rt, rt.alloc(), " ", ERRORS)
+fn texts_of_errors(rt: HostRuntime) {
+    are_found::<Errors>(&rt, " ", ERRORS);
+}
+
+/// Errors that are no refusals: whether each is one of the network, whether a stream goes on behind it, whether it has a label,
+/// and its code. The errors inside do not speak for the one around them.
+const OTHERS: &str = "io~true true false None
+aborted~false false false None";
+
+struct Others;
+
+impl Subject for Others {
+    fn found(alloc: Global, name: &str) -> Result<String, Error> {
+        let error = error_of(alloc, name)?;
+        let is_lost = error.is_network_error();
+        let goes_on = error.is_resumable();
+        let is_labelled = error.contains_label("RetryableWriteError");
+        Ok(format!(in alloc; "{is_lost} {goes_on} {is_labelled} {:?}", error.sdam_code())?)
+    }
+}
+
+#[test]
+fn errors_that_are_no_refusals(rt: HostRuntime) {
+    are_found::<Others>(&rt, "~", OTHERS);
 }
 
 // Whether a change stream goes on after a refusal.
@@ -239,33 +318,8 @@ impl Subject for Resumable {
 }
 
 #[test]
-fn resumable_refusals(rt: HostRuntime) -> Result<(), Fail> {
-    are_found::<Resumable>(&rt, rt.alloc(), " -> ", RESUMABLE)
-}
-
-#[test]
-fn errors_that_are_no_refusals(rt: HostRuntime) {
-    let lost = Error {
-        kind: ErrorKind::Io,
-        labels: Labels::none(),
-        wire_version: None,
-    };
-    assert!(rt; lost.is_network_error());
-    assert!(rt; lost.is_resumable());
-    assert!(rt; !lost.contains_label("RetryableWriteError"));
-    assert_eq!(rt; lost.sdam_code(), None);
-    let read = Error::from(BsonError::Malformed);
-    assert!(rt; matches!(&read.kind, ErrorKind::BsonDeserialization));
-}
-
-// The errors inside do not speak for the one around them.
-#[test]
-fn chunks_that_are_left(rt: HostRuntime) -> Result<(), Fail> {
-    let left = plain(chunks_left(rt.alloc(), false)?);
-    assert!(rt; !left.is_network_error());
-    assert!(rt; !left.is_resumable());
-    assert_eq!(rt; left.sdam_code(), None);
-    Ok(())
+fn resumable_refusals(rt: HostRuntime) {
+    are_found::<Resumable>(&rt, " -> ", RESUMABLE);
 }
 
 /// Texts, and the parts of the names that they are, with what a copy prints as.
@@ -276,53 +330,25 @@ app~none
 app.~none
 .~none";
 
+// The parts of a name, the name, and whether a copy of it as a target is equal.
+fn parts_of(alloc: Global, name: &Namespace) -> Result<String, AllocError> {
+    let target = OperationTarget::Collection(name.clone()?);
+    let is_same = target.clone()? == target;
+    format!(in alloc; "{} {} {name} {is_same}", name.db, name.coll)
+}
+
 struct Namespaces;
 
 impl Subject for Namespaces {
     fn found(alloc: Global, text: &str) -> Result<String, Error> {
-        let Some(name) = Namespace::from_str(alloc, text)? else {
-            return Ok(String::from_str(alloc, "none")?);
-        };
-        let copy = name.clone()?;
-        let target = OperationTarget::Collection(copy.clone()?);
-        let is_same = target.clone()? == target;
-        Ok(format!(in alloc; "{} {} {copy} {is_same}", name.db, name.coll)?)
+        match &Namespace::from_str(alloc, text)? {
+            Some(name) => Ok(parts_of(alloc, &name.clone()?)?),
+            None => Ok(String::from_str(alloc, "none")?),
+        }
     }
 }
 
 #[test]
-fn names(rt: HostRuntime) -> Result<(), Fail> {
-    are_found::<Namespaces>(&rt, rt.alloc(), "~", NAMES)
-}
-
-#[test]
-fn ids_of_a_count(rt: HostRuntime) {
-    let mut ids = CountedIds::new([1, 2, 3, 4]);
-    assert_eq!(rt;
-        ids.next_id(),
-        ObjectId([1, 2, 3, 4, 0, 0, 0, 0, 0, 0, 0, 0])
-    );
-    assert_eq!(rt;
-        ids.next_id(),
-        ObjectId([1, 2, 3, 4, 0, 0, 0, 0, 0, 0, 0, 1])
-    );
-}
-
-#[test]
-fn log_of_one_call(rt: HostRuntime) -> Result<(), Fail> {
-    let alloc = rt.alloc();
-    let mut log = Log::new(alloc);
-    assert!(rt; log.is_empty());
-    let command = to_bytes(alloc, &Document::new(alloc))?;
-    log.push(LoggedCall {
-        command,
-        position: Some(0),
-        seen: Seen::Waiting,
-    })?;
-    assert_eq!(rt; log.len(), 1);
-    log.see(0, Seen::Fault);
-    for call in log.calls() {
-        assert!(rt; matches!(call.seen, Seen::Fault));
-    }
-    Ok(())
+fn names(rt: HostRuntime) {
+    are_found::<Namespaces>(&rt, "~", NAMES);
 }

@@ -9,7 +9,6 @@ use mg_link::{Error, ErrorKind, Link, Polled, Ticket, plain};
 use mg_ops::encode;
 use mg_store::{Fate, FateKind, MemLink, Store, may_go_aside};
 use std::alloc::{AllocError, Global};
-use std::test::Fail;
 
 /// An insert of a document with this id.
 fn insert_of(alloc: Global, id: i32) -> Result<RawDocumentBuf, Error> {
@@ -109,8 +108,8 @@ impl Subject for Fated {
 }
 
 #[test]
-fn each_command_meets_its_fate(rt: HostRuntime) -> Result<(), Fail> {
-    are_found::<Fated>(&rt, rt.alloc(), "~", FATED)
+fn each_command_meets_its_fate(rt: HostRuntime) {
+    are_found::<Fated>(&rt, "~", FATED);
 }
 
 /// Each line is the first name of a command, and whether it may go aside.
@@ -136,6 +135,6 @@ impl Subject for Aside {
 }
 
 #[test]
-fn which_commands_go_aside(rt: HostRuntime) -> Result<(), Fail> {
-    are_found::<Aside>(&rt, rt.alloc(), " ", FIRST_NAMES)
+fn which_commands_go_aside(rt: HostRuntime) {
+    are_found::<Aside>(&rt, " ", FIRST_NAMES);
 }

@@ -1,5 +1,5 @@
 use super::records::shown;
-use super::{Subject, are_found};
+use super::{Subject, are_found, copied};
 use crate::{namespace, one_field, text};
 use mg_bson::{Bson, Document, Timestamp};
 use mg_link::{
@@ -10,7 +10,6 @@ use mg_options::{
     ChangeStreamOptions, Collation, FullDocumentBeforeChangeType, FullDocumentType, ResumeToken,
 };
 use std::alloc::Global;
-use std::test::Fail;
 
 fn token(alloc: Global, n: i32) -> Result<ResumeToken, Error> {
     let data = one_field(alloc, "_data", Bson::Int32(n))?;
@@ -53,7 +52,7 @@ fn all_given(alloc: Global) -> Result<ChangeStreamOptions, Error> {
         .read_concern(local)
         .selection_criteria(SelectionCriteria::ReadPreference(ReadPreference::Nearest))
         .build();
-    Ok(options.clone()?)
+    copied(options)
 }
 
 // The command of a watch with these options, which passes over one event.
@@ -103,6 +102,6 @@ impl Subject for Options {
 }
 
 #[test]
-fn options_print_their_fields(rt: HostRuntime) -> Result<(), Fail> {
-    are_found::<Options>(&rt, rt.alloc(), "~", OPTIONS)
+fn options_print_their_fields(rt: HostRuntime) {
+    are_found::<Options>(&rt, "~", OPTIONS);
 }

@@ -1,4 +1,4 @@
-use super::{Subject, are_found};
+use super::{Subject, are_found, copied};
 use crate::{json_value, parted, text};
 use mg_bson::{Bson, DateTime, Document, RawDocumentBuf, to_bytes};
 use mg_link::Error;
@@ -8,7 +8,6 @@ use mg_records::{
 };
 use std::alloc::{AllocError, Global};
 use std::fmt::Debug;
-use std::test::Fail;
 
 /// Each line is what a document is read as, its fields, and what comes of it. A number of 32 bits stands behind `i`, one of
 /// 64 behind `l`, and a time behind `t`; `value_of` has the words of other values.
@@ -140,8 +139,13 @@ fn times(alloc: Global, event: &ChangeStreamEvent<Document>) -> Result<String, A
     format!(in alloc; "{number:?} {:?} {:?}", event.cluster_time, event.wall_time)
 }
 
+// A copy of the record that a document is read as.
+fn read<T: ReadRaw + Clone + Drop>(alloc: Global, raw: &RawDocumentBuf) -> Result<T, Error> {
+    copied(T::read_raw(alloc, raw.as_raw())?)
+}
+
 fn event(alloc: Global, raw: &RawDocumentBuf) -> Result<String, Error> {
-    let event = ChangeStreamEvent::read_raw(alloc, raw.as_raw())?.clone()?;
+    let event: ChangeStreamEvent<Document> = read(alloc, raw)?;
     let operation = event.operation_type.as_word();
     let db = database(&event);
     let kind = made(&event);
@@ -156,23 +160,22 @@ fn printed<T: ReadRaw + Clone + Debug + Drop>(
     alloc: Global,
     raw: &RawDocumentBuf,
 ) -> Result<String, Error> {
-    let record = T::read_raw(alloc, raw.as_raw())?;
-    let copy = record.clone()?;
+    let copy: T = read(alloc, raw)?;
     Ok(format!(in alloc; "{copy:?}")?)
 }
 
 fn space(alloc: Global, raw: &RawDocumentBuf) -> Result<String, Error> {
-    let space = ChangeNamespace::read_raw(alloc, raw.as_raw())?.clone()?;
+    let space: ChangeNamespace = read(alloc, raw)?;
     Ok(format!(in alloc; "{} {:?}", space.db, space.coll)?)
 }
 
 fn change(alloc: Global, raw: &RawDocumentBuf) -> Result<String, Error> {
-    let change = UpdateDescription::read_raw(alloc, raw.as_raw())?.clone()?;
+    let change: UpdateDescription = read(alloc, raw)?;
     Ok(format!(in alloc; "{:?} {:?}", change.updated_fields, change.removed_fields)?)
 }
 
 fn cut(alloc: Global, raw: &RawDocumentBuf) -> Result<String, Error> {
-    let cut = TruncatedArray::read_raw(alloc, raw.as_raw())?.clone()?;
+    let cut: TruncatedArray = read(alloc, raw)?;
     Ok(format!(in alloc; "{} {}", cut.field, cut.new_size)?)
 }
 
@@ -198,6 +201,6 @@ impl Subject for Readings {
 }
 
 #[test]
-fn documents_are_read(rt: HostRuntime) -> Result<(), Fail> {
-    are_found::<Readings>(&rt, rt.alloc(), " -> ", READINGS)
+fn documents_are_read(rt: HostRuntime) {
+    are_found::<Readings>(&rt, " -> ", READINGS);
 }

@@ -1,4 +1,4 @@
-use super::{Subject, are_found};
+use super::{Subject, are_found, copied};
 use crate::{document_word, find, json_bytes, namespace, one_field, parted, text};
 use mg_bson::{Bson, Document, RawDocumentBuf};
 use mg_link::{Error, OperationTarget, ReadPreference, SelectionCriteria};
@@ -11,7 +11,6 @@ use mg_options::{
     RunCursorCommandOptions, UpdateModifications,
 };
 use std::alloc::Global;
-use std::test::Fail;
 
 // The size and time of the getMores of a cursor, and whether they have a comment.
 fn cursor_word(alloc: Global, opened: CursorSpecification) -> Result<String, Error> {
@@ -103,7 +102,7 @@ fn ran(alloc: Global, reply: RawDocumentBuf) -> Result<String, Error> {
     let run = RunCursorCommand {
         db,
         command: Document::new(alloc),
-        options: options.clone()?,
+        options: copied(options)?,
     };
     cursor_word(alloc, run.read(alloc, reply)?)
 }
@@ -145,6 +144,6 @@ impl Subject for Replies {
 }
 
 #[test]
-fn replies_to_operations(rt: HostRuntime) -> Result<(), Fail> {
-    are_found::<Replies>(&rt, rt.alloc(), " -> ", REPLIES)
+fn replies_to_operations(rt: HostRuntime) {
+    are_found::<Replies>(&rt, " -> ", REPLIES);
 }

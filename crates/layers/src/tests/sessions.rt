@@ -7,8 +7,7 @@ use mg_link::{
     ImplicitClientSessionHandle, PinnedConnection, TransactionState,
 };
 use mg_ops::Operation;
-use std::alloc::Global;
-use std::test::Fail;
+use std::alloc::{AllocError, Global};
 
 // A session in this state. Where a transaction starts it is the second one, and otherwise the first.
 fn session_in(alloc: Global, state: TransactionState) -> Result<ClientSession, Error> {
@@ -69,8 +68,8 @@ space plain-indexes running~createIndexes indexes $db lsid txnNumber autocommit 
 space dropped committed~drop $db lsid {"$db":"db","drop":"coll","lsid":{"id":7}}"#;
 
 #[test]
-fn commands_in_sessions(rt: HostRuntime) -> Result<(), Fail> {
-    are_found::<Commands>(&rt, rt.alloc(), "~", COMMANDS)
+fn commands_in_sessions(rt: HostRuntime) {
+    are_found::<Commands>(&rt, "~", COMMANDS);
 }
 
 /// Each line is the state of a session, an operation, and how often it is sent there.
@@ -106,43 +105,64 @@ impl Subject for Retries {
 }
 
 #[test]
-fn retries_in_sessions(rt: HostRuntime) -> Result<(), Fail> {
-    are_found::<Retries>(&rt, rt.alloc(), " -> ", RETRIES)
+fn retries_in_sessions(rt: HostRuntime) {
+    are_found::<Retries>(&rt, " -> ", RETRIES);
 }
 
-// Begins a transaction of the session that a handle lends, where it has one.
-fn begins<H: ClientSessionHandle>(handle: &mut H) -> bool {
-    match handle.borrow_mut() {
+// Whether a handle is implicit, and whether it lends a session, which begins a transaction then.
+fn lent_by<H: ClientSessionHandle>(alloc: Global, handle: &mut H) -> Result<String, AllocError> {
+    let is_implicit = handle.is_implicit();
+    let is_lent = match handle.borrow_mut() {
         Some(session) => {
             session.begin();
             true
         }
         None => false,
-    }
+    };
+    format!(in alloc; "{is_implicit} {is_lent}")
 }
 
-#[test]
-fn sessions_in_handles(rt: HostRuntime) -> Result<(), Fail> {
-    let mut none = ImplicitClientSessionHandle(None);
-    assert!(rt; none.is_implicit());
-    assert!(rt; !begins(&mut none));
-    let own = session_in(rt.alloc(), TransactionState::None)?;
-    assert!(rt; begins(&mut ImplicitClientSessionHandle(Some(own))));
-    let mut session = session_in(rt.alloc(), TransactionState::Committed)?;
-    {
-        let mut handle = ExplicitClientSessionHandle(&mut session);
-        assert!(rt; !handle.is_implicit());
-        assert!(rt; begins(&mut handle));
-    }
-    assert_eq!(rt; session.transaction_state(), TransactionState::Starting);
-    assert_eq!(rt; session.transaction_number(), 2);
-    Ok(())
+// A session that a handle owns.
+fn owned(alloc: Global) -> Result<String, Error> {
+    let session = session_in(alloc, TransactionState::None)?;
+    Ok(lent_by(alloc, &mut ImplicitClientSessionHandle(Some(session)))?)
 }
 
-#[test]
-fn connections_are_lost(rt: HostRuntime) {
+// A session that stands behind a handle, and its transaction.
+fn explicit(alloc: Global) -> Result<String, Error> {
+    let mut session = session_in(alloc, TransactionState::Committed)?;
+    let lent = lent_by(alloc, &mut ExplicitClientSessionHandle(&mut session))?;
+    let state = session.transaction_state();
+    Ok(format!(in alloc; "{lent} {state:?} {}", session.transaction_number())?)
+}
+
+// What a pinned connection is that is lost, and whether one that was not pinned is lost.
+fn lost(alloc: Global) -> Result<String, AllocError> {
     let lost = PinnedConnection::Valid(3).invalidated();
-    assert_eq!(rt; lost, PinnedConnection::Invalid(3));
-    assert!(rt; lost.is_invalid());
-    assert!(rt; !PinnedConnection::Unpinned.invalidated().is_invalid());
+    let is_lost = PinnedConnection::Unpinned.invalidated().is_invalid();
+    format!(in alloc; "{lost:?} {} {is_lost}", lost.is_invalid())
+}
+
+/// Handles without a session, with their own and with another one's, and a connection that is lost.
+const HANDLES: &str = "none~true false
+owned~true true
+explicit~false true Starting 2
+lost~Invalid(3) true false";
+
+struct Handles;
+
+impl Subject for Handles {
+    fn found(alloc: Global, about: &str) -> Result<String, Error> {
+        match about {
+            "none" => Ok(lent_by(alloc, &mut ImplicitClientSessionHandle(None))?),
+            "owned" => owned(alloc),
+            "explicit" => explicit(alloc),
+            _ => Ok(lost(alloc)?),
+        }
+    }
+}
+
+#[test]
+fn sessions_in_handles(rt: HostRuntime) {
+    are_found::<Handles>(&rt, "~", HANDLES);
 }

@@ -1,6 +1,6 @@
 use super::commands::{journaled, local, nearest};
 use super::records::keys;
-use super::{Subject, are_found};
+use super::{Subject, are_found, copied};
 use mg_bson::{Bson, Document};
 use mg_link::Error;
 use mg_options::{
@@ -13,7 +13,6 @@ use mg_records::{
 };
 use std::alloc::Global;
 use std::fmt::Debug;
-use std::test::Fail;
 
 // Each line is a record that puts nothing into a body, and some of what a copy of it holds: that each call and the copy keep
 // each field is proved.
@@ -48,7 +47,7 @@ fn collection(alloc: Global) -> Result<String, Error> {
         .read_concern(local())
         .write_concern(journaled())
         .build();
-    let copy = options.clone()?;
+    let copy = copied(options)?;
     fields(
         alloc,
         &copy.selection_criteria,
@@ -70,7 +69,7 @@ fn update(alloc: Global) -> Result<String, Error> {
         .comment(Bson::Int32(5))
         .sort(sort)
         .build();
-    let copy = options.clone()?;
+    let copy = copied(options)?;
     fields(alloc, &copy.array_filters, &copy.comment)
 }
 
@@ -87,7 +86,7 @@ fn replace(alloc: Global) -> Result<String, Error> {
         .comment(Bson::Int32(6))
         .sort(sort)
         .build();
-    let copy = UpdateOptions::from_replace_options(options.clone()?);
+    let copy = UpdateOptions::from_replace_options(copied(options)?);
     fields(alloc, &copy.upsert, &copy.comment)
 }
 
@@ -104,7 +103,7 @@ fn find_and_delete(alloc: Global) -> Result<String, Error> {
         .let_vars(let_vars)
         .comment(Bson::Int32(5))
         .build();
-    let copy = options.clone()?;
+    let copy = copied(options)?;
     fields(alloc, &copy.projection, &copy.comment)
 }
 
@@ -124,7 +123,7 @@ fn find_and_replace(alloc: Global) -> Result<String, Error> {
         .let_vars(let_vars)
         .comment(Bson::Int32(5))
         .build();
-    let copy = options.clone()?;
+    let copy = copied(options)?;
     fields(alloc, &copy.projection, &copy.comment)
 }
 
@@ -146,7 +145,7 @@ fn find_and_update(alloc: Global) -> Result<String, Error> {
         .let_vars(let_vars)
         .comment(Bson::Int32(5))
         .build();
-    let copy = options.clone()?;
+    let copy = copied(options)?;
     fields(alloc, &copy.array_filters, &copy.comment)
 }
 
@@ -163,7 +162,7 @@ fn count(alloc: Global) -> Result<String, Error> {
         .read_concern(local())
         .comment(Bson::Int32(5))
         .build();
-    let copy = options.clone()?;
+    let copy = copied(options)?;
     fields(alloc, &copy.skip, &copy.comment)
 }
 
@@ -176,7 +175,7 @@ fn bucket(alloc: Global) -> Result<String, Error> {
         .read_concern(local())
         .selection_criteria(nearest())
         .build();
-    let copy = options.clone()?;
+    let copy = copied(options)?;
     fields(alloc, &copy.bucket_name, &copy.chunk_size_bytes)
 }
 
@@ -186,13 +185,13 @@ fn upload(alloc: Global) -> Result<String, Error> {
         .chunk_size_bytes(4)
         .metadata(metadata)
         .build();
-    let copy = options.clone()?;
+    let copy = copied(options)?;
     fields(alloc, &copy.chunk_size_bytes, &copy.metadata)
 }
 
 fn by_name(alloc: Global) -> Result<String, Error> {
     let options = GridFsDownloadByNameOptions::builder().revision(-2).build();
-    let copy = options.clone()?;
+    let copy = copied(options)?;
     Ok(format!(in alloc; "{:?}", copy.revision)?)
 }
 
@@ -216,6 +215,6 @@ impl Subject for Copies {
 }
 
 #[test]
-fn records_hold_their_fields(rt: HostRuntime) -> Result<(), Fail> {
-    are_found::<Copies>(&rt, rt.alloc(), "~", RECORDS)
+fn records_hold_their_fields(rt: HostRuntime) {
+    are_found::<Copies>(&rt, "~", RECORDS);
 }

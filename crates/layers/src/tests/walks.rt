@@ -1,9 +1,7 @@
-use super::{Subject, are_found};
-use crate::bytes_at;
-use mg_bson::{BsonError, RawDocumentBuf, RawDocuments};
+use super::{Subject, are_found, raw_at};
+use mg_bson::RawDocuments;
 use mg_link::Error;
 use std::alloc::Global;
-use std::test::Fail;
 
 /// A document each, and behind it the documents of the array `b` inside its document `a`, in hexadecimal digits: a point
 /// stands behind the last one. None are those of another value, or of an array with another value.
@@ -18,7 +16,7 @@ const WALKS: &str = "\
 ";
 
 // The documents in order. Behind the last one no more come.
-fn walked(alloc: Global, documents: RawDocuments) -> Result<String, BsonError> {
+fn walked(alloc: Global, documents: RawDocuments) -> Result<String, Error> {
     let mut documents = documents;
     let mut text = String::new(alloc);
     for _ in 0..9 {
@@ -27,9 +25,8 @@ fn walked(alloc: Global, documents: RawDocuments) -> Result<String, BsonError> {
         }
         if let Some(document) = documents.current() {
             let digits = hex::encode(alloc, document.as_bytes())?;
-            let space = if text.is_empty() { "" } else { " " };
-            let point = if documents.is_last() { "." } else { "" };
-            text = format!(in alloc; "{text}{space}{digits}{point}")?;
+            let end = if documents.is_last() { "." } else { " " };
+            write!(text, "{digits}{end}")?;
         }
     }
     if documents.advance() || documents.current().is_some() {
@@ -42,15 +39,14 @@ struct Walks;
 
 impl Subject for Walks {
     fn found(alloc: Global, digits: &str) -> Result<String, Error> {
-        let reply = RawDocumentBuf::from_bytes(bytes_at(alloc, digits)?)?;
-        match RawDocuments::new(reply, "a", "b") {
-            Some(documents) => Ok(walked(alloc, documents)?),
+        match RawDocuments::new(raw_at(alloc, digits)?, "a", "b") {
+            Some(documents) => walked(alloc, documents),
             None => Ok(String::from_str(alloc, "none")?),
         }
     }
 }
 
 #[test]
-fn documents_of_a_reply(rt: HostRuntime) -> Result<(), Fail> {
-    are_found::<Walks>(&rt, rt.alloc(), " ", WALKS)
+fn documents_of_a_reply(rt: HostRuntime) {
+    are_found::<Walks>(&rt, " ", WALKS);
 }

@@ -8,7 +8,6 @@ use mg_options::{
 use mg_records::{ChangeNamespaceType, OperationType};
 use std::alloc::Global;
 use std::fmt::Display;
-use std::test::Fail;
 
 /// Each line is a list of words, a word, and what it is read as: its own text where the list has it or keeps it.
 const WORDS: &str = r#"strength 1 -> 1
@@ -66,7 +65,11 @@ quorum "all" -> other all
 quorum 4294967295 -> 4294967295
 quorum 4294967296 -> number out of range
 quorum -1 -> number out of range
-quorum true -> number out of range"#;
+quorum true -> number out of range
+strength 5 -> 5
+strength 6 -> invalid collation strength: 6
+alternate shifted -> shifted
+return AFTER -> true"#;
 
 // A word that prints as itself.
 fn printed<T: Display + Drop>(alloc: Global, read: Result<T, Error>) -> Result<String, Error> {
@@ -93,34 +96,35 @@ fn listed(alloc: Global, word: &str, is_other: bool) -> Result<String, Error> {
     Ok(format!(in alloc; "{other}{word}")?)
 }
 
-fn level(alloc: Global, word: &str) -> Result<String, Error> {
-    let value = ReadConcernLevel::from_word(alloc, word)?;
-    let is_other = matches!(&value, ReadConcernLevel::Custom(_));
-    listed(alloc, value.as_word(), is_other)
-}
-
-fn full_document(alloc: Global, word: &str) -> Result<String, Error> {
-    let value = FullDocumentType::from_word(alloc, word)?;
-    let is_other = matches!(&value, FullDocumentType::Other(_));
-    listed(alloc, value.as_word(), is_other)
-}
-
-fn before(alloc: Global, word: &str) -> Result<String, Error> {
-    let value = FullDocumentBeforeChangeType::from_word(alloc, word)?;
-    let is_other = matches!(&value, FullDocumentBeforeChangeType::Other(_));
-    listed(alloc, value.as_word(), is_other)
-}
-
-fn operation(alloc: Global, word: &str) -> Result<String, Error> {
-    let value = OperationType::from_word(alloc, word)?;
-    let is_other = matches!(&value, OperationType::Other(_));
-    listed(alloc, value.as_word(), is_other)
-}
-
-fn namespace_type(alloc: Global, word: &str) -> Result<String, Error> {
-    let value = ChangeNamespaceType::from_word(alloc, word)?;
-    let is_other = matches!(&value, ChangeNamespaceType::Other(_));
-    listed(alloc, value.as_word(), is_other)
+// A word of a list that keeps others.
+fn kept(alloc: Global, list: &str, word: &str) -> Result<String, Error> {
+    match list {
+        "level" => {
+            let value = ReadConcernLevel::from_word(alloc, word)?;
+            let is_other = matches!(&value, ReadConcernLevel::Custom(_));
+            listed(alloc, value.as_word(), is_other)
+        }
+        "full" => {
+            let value = FullDocumentType::from_word(alloc, word)?;
+            let is_other = matches!(&value, FullDocumentType::Other(_));
+            listed(alloc, value.as_word(), is_other)
+        }
+        "before" => {
+            let value = FullDocumentBeforeChangeType::from_word(alloc, word)?;
+            let is_other = matches!(&value, FullDocumentBeforeChangeType::Other(_));
+            listed(alloc, value.as_word(), is_other)
+        }
+        "operation" => {
+            let value = OperationType::from_word(alloc, word)?;
+            let is_other = matches!(&value, OperationType::Other(_));
+            listed(alloc, value.as_word(), is_other)
+        }
+        _ => {
+            let value = ChangeNamespaceType::from_word(alloc, word)?;
+            let is_other = matches!(&value, ChangeNamespaceType::Other(_));
+            listed(alloc, value.as_word(), is_other)
+        }
+    }
 }
 
 fn acknowledgment(alloc: Global, word: &str) -> Result<String, Error> {
@@ -157,28 +161,14 @@ impl Subject for Words {
                 Ok(format!(in alloc; "{is_new}")?)
             }
             "preference" => preference(alloc, word),
-            "level" => level(alloc, word),
-            "full" => full_document(alloc, word),
-            "before" => before(alloc, word),
             "w" => acknowledgment(alloc, word),
-            "operation" => operation(alloc, word),
-            "type" => namespace_type(alloc, word),
-            _ => quorum(alloc, word),
+            "quorum" => quorum(alloc, word),
+            _ => kept(alloc, list, word),
         }
     }
 }
 
 #[test]
-fn words_are_read(rt: HostRuntime) -> Result<(), Fail> {
-    are_found::<Words>(&rt, rt.alloc(), " -> ", WORDS)
-}
-
-const COLLATIONS: &str = "strength 5 -> 5
-strength 6 -> invalid collation strength: 6
-alternate shifted -> shifted
-return AFTER -> true";
-
-#[test]
-fn collation_words(rt: HostRuntime) -> Result<(), Fail> {
-    are_found::<Words>(&rt, rt.alloc(), " -> ", COLLATIONS)
+fn words_are_read(rt: HostRuntime) {
+    are_found::<Words>(&rt, " -> ", WORDS);
 }
