@@ -1,5 +1,6 @@
 -- What the gets of a run blame, of files that its puts write.
-use Rattle.std.proofs.Common.{◌≡◌, ◌∷◌, [], ℕ, suc, ℤ, Bool, false, List, Some, Result, Ok, Err, length, take, sym, ◌∙◌, subst, arith}
+use Rattle.std.proofs.Common.{◌≡◌, ◌∷◌, ◌++◌, [], ℕ, suc, ℤ, Bool, false, List, Some, Result, Ok, Err, length, take, sym, ◌∙◌, subst, arith}
+use Rattle.std.specs.List.{concat}
 use Rattle.std.specs.Prelude.{IfOk, slice_get}
 use Rattle.mg_bson.specs.Tree.{Fields, Tree}
 use Rattle.mg_link.specs.Calls.{Past}
@@ -40,10 +41,10 @@ use Rattle.mg_jobs.proofs.RecordMade.{inserted_before}
 -- ---- what a put sent
 
 -- however it ended, it sent the commands of a put
-put_sends : (supply : Supply) (t : PutTask) (past : Past) (commands : List Fields) (end : Ended ℕ) → PutEndsSent supply t past commands end → (removed : Bool) × SentSome supply t commands removed
-put_sends supply t past commands ended.Unfinished s = (s.0, s.1)
-put_sends supply t past commands (ended.Gave n) s = (false, (length (file_chunks t), Some s.0, s.1))
-put_sends supply t past commands (ended.Failed e) s = (s.0, s.1)
+put_sends : (supply : Supply) (t : PutTask) (ever past : Past) (commands : List Fields) (end : Ended ℕ) → PutEndsSent supply t ever past commands end → (removed : Bool) × SentSome supply t ever commands removed
+put_sends supply t ever past commands ended.Unfinished s = (s.0, s.1)
+put_sends supply t ever past commands (ended.Gave n) s = (false, (length (file_chunks t), Some s.0, s.1))
+put_sends supply t ever past commands (ended.Failed e) s = (s.0, s.1)
 
 module _ (awaited : Awaited) (c : Course) (j : ℕ) (calls : List Call) (wire : ℤ) (supply : Supply) (t : PutTask) (end : Ended ℕ) (p : PutEnds awaited c j calls wire supply t end) where
   -- each of its places is of a command that one of its turns sent
@@ -54,8 +55,9 @@ module _ (awaited : Awaited) (c : Course) (j : ℕ) (calls : List Call) (wire : 
 
   put_once : IsNamed (chunks_space t.at) → RemovesOnce c j calls t
   put_once named =
-      let s = put_sends supply t (sent_at p.places calls wire) (commands_at calls (places_of c j)) end p.sends in
-      removes_once supply t c j calls s.1.0 s.1.1 s.0 s.1.2 (files_named t.at named.db) named put_own
+      let ever : Past = sent_at (concat p.owns ++ p.places) calls wire in
+      let s = put_sends supply t ever (sent_at p.places calls wire) (commands_at calls (places_of c j)) end p.sends in
+      removes_once supply t ever c j calls s.1.0 s.1.1 s.0 s.1.2 (files_named t.at named.db) named put_own
 
 -- ---- chunks that are blamed
 

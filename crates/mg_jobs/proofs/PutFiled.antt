@@ -1,5 +1,6 @@
 -- What becomes of the file of a put, by the steps of its job.
-use Rattle.std.proofs.Common.{◌≡◌, [], ℕ, ℤ, Bool, false, List, Option, Some, length, sym, ◌∙◌, subst, inl, inr}
+use Rattle.std.proofs.Common.{◌≡◌, ◌++◌, [], ℕ, ℤ, Bool, false, List, Option, Some, length, sym, ◌∙◌, subst, inl, inr}
+use Rattle.std.specs.List.{concat}
 use Rattle.mg_bson.specs.Tree.{Fields}
 use Rattle.mg_link.specs.Calls.{Past}
 use Rattle.mg_link.specs.Link.{Awaited}
@@ -28,16 +29,16 @@ use Rattle.mg_jobs.proofs.PutLater.{later_steps}
 -- ---- behind its record
 
 -- some of its commands, as PutSends has them
-pub record SomeSent (supply : Supply) (t : PutTask) (commands : List Fields) : Type 0 where
+pub record SomeSent (supply : Supply) (t : PutTask) (ever : Past) (commands : List Fields) : Type 0 where
   pub upto : ℕ
   pub moment : Option ℤ
   pub removed : Bool
-  pub sends : PutSends supply t commands upto moment removed
+  pub sends : PutSends supply t ever commands upto moment removed
 
-some_sent : (supply : Supply) (t : PutTask) (past : Past) (commands : List Fields) (end : Ended ℕ) → PutEndsSent supply t past commands end → SomeSent supply t commands
-some_sent supply t past commands ended.Unfinished h = record { upto = h.1.0; moment = h.1.1; removed = h.0; sends = h.1.2 }
-some_sent supply t past commands (ended.Gave n) h = record { upto = length (file_chunks t); moment = Some h.0; removed = false; sends = h.1 }
-some_sent supply t past commands (ended.Failed e) h = record { upto = h.1.0; moment = h.1.1; removed = h.0; sends = h.1.2 }
+some_sent : (supply : Supply) (t : PutTask) (ever past : Past) (commands : List Fields) (end : Ended ℕ) → PutEndsSent supply t ever past commands end → SomeSent supply t ever commands
+some_sent supply t ever past commands ended.Unfinished h = record { upto = h.1.0; moment = h.1.1; removed = h.0; sends = h.1.2 }
+some_sent supply t ever past commands (ended.Gave n) h = record { upto = length (file_chunks t); moment = Some h.0; removed = false; sends = h.1 }
+some_sent supply t ever past commands (ended.Failed e) h = record { upto = h.1.0; moment = h.1.1; removed = h.0; sends = h.1.2 }
 
 -- one that sent nothing has no record
 none_behind : (c : Course) (i : ℕ) (calls : List Call) (t : PutTask) → places_of c i ≡ [] → WholeBehind c i calls t
@@ -45,7 +46,7 @@ none_behind c i calls t none history legal stands leave recorded upto r behind k
     let own = r.by.own in
     absurd (subst (λ (l : List ℕ). IsOf l own.place) none (sent_place c i own.done own.place own.sent))
 
-module _ (c : Course) (i : ℕ) (calls : List Call) (wire : ℤ) (places : List ℕ) (whole : places ≡ places_of c i) (supply : Supply) (t : PutTask) (sent : SomeSent supply t (commands_at calls (places_of c i))) where
+module _ (c : Course) (i : ℕ) (calls : List Call) (wire : ℤ) (places : List ℕ) (whole : places ≡ places_of c i) (supply : Supply) (t : PutTask) (ever : Past) (sent : SomeSent supply t ever (commands_at calls (places_of c i))) where
   -- the step of its record, as one of what it sent
   record_step : (moment : ℤ) (position : ℕ) → IsStepWith c i calls position (record_insert t moment) → IsRecordStep (sent_at places calls wire) t position
   record_step moment position s = record {
@@ -59,7 +60,7 @@ module _ (c : Course) (i : ℕ) (calls : List Call) (wire : ℤ) (places : List 
   records_over named lays moment = record {
     named = named.0;
     stood = λ history legal stands leave position s. lays history legal stands (others_leave c i calls wire places whole history t.at t.id leave) position (record_step moment position s);
-    later = λ history stands recorded position r o less. later_steps supply t c i calls sent.upto sent.moment sent.removed sent.sends named.0 named.1 history stands moment recorded position r o less;
+    later = λ history stands recorded position r o less. later_steps supply t ever c i calls sent.upto sent.moment sent.removed sent.sends named.0 named.1 history stands moment recorded position r o less;
   }
 
   put_behind : NamesFiles t → LaysAll (sent_at places calls wire) t → WholeBehind c i calls t
@@ -81,18 +82,18 @@ put_filed awaited c i n calls wire supply t q done (puts.Begins begun) tells sen
 put_filed awaited c i n calls wire supply t q done (puts.Goes going) tells sent ends_so =
     let u = upload_of going.upload in
     let past : Past = sent_at (all_places q) calls wire in
-    put_behind c i calls wire (all_places q) sent.whole supply t (some_sent supply t (sent_at ends_so.places calls wire) (commands_at calls (places_of c i)) ended.Unfinished ends_so.sends)
+    put_behind c i calls wire (all_places q) sent.whole supply t (sent_at (concat ends_so.owns ++ ends_so.places) calls wire) (some_sent supply t (sent_at (concat ends_so.owns ++ ends_so.places) calls wire) (sent_at ends_so.places calls wire) (commands_at calls (places_of c i)) ended.Unfinished ends_so.sends)
     (names_of awaited past t u (taken_in u.doing t.pieces done) tells.0.aim_is tells.0.knows) (doing_laid past t u.doing tells.0.lays)
 put_filed awaited c i n calls wire supply t q done (puts.Ended ended.Unfinished) tells sent ends_so =
-    end_behind c i calls wire (all_places q) sent.whole supply t (some_sent supply t (sent_at ends_so.places calls wire) (commands_at calls (places_of c i)) ended.Unfinished ends_so.sends) tells.5
+    end_behind c i calls wire (all_places q) sent.whole supply t (sent_at (concat ends_so.owns ++ ends_so.places) calls wire) (some_sent supply t (sent_at (concat ends_so.owns ++ ends_so.places) calls wire) (sent_at ends_so.places calls wire) (commands_at calls (places_of c i)) ended.Unfinished ends_so.sends) tells.5
 put_filed awaited c i n calls wire supply t q done (puts.Ended (ended.Gave size)) tells sent ends_so = (
   put_left c i calls wire (all_places q) t sent.whole tells.2.2,
-  end_behind c i calls wire (all_places q) sent.whole supply t (some_sent supply t (sent_at ends_so.places calls wire) (commands_at calls (places_of c i)) (ended.Gave size) ends_so.sends) tells.5,
+  end_behind c i calls wire (all_places q) sent.whole supply t (sent_at (concat ends_so.owns ++ ends_so.places) calls wire) (some_sent supply t (sent_at (concat ends_so.owns ++ ends_so.places) calls wire) (sent_at ends_so.places calls wire) (commands_at calls (places_of c i)) (ended.Gave size) ends_so.sends) tells.5,
 )
 put_filed awaited c i n calls wire supply t q done (puts.Ended (ended.Failed e)) tells sent ends_so = (
   λ leaves. elim tells.2 [
     | inl cannot ↦ put_sent_none c i calls t (sym sent.whole ∙ cannot.1)
     | inr fails ↦ put_cleared c i calls wire (all_places q) t sent.whole (fails.2 leaves)
   ],
-  end_behind c i calls wire (all_places q) sent.whole supply t (some_sent supply t (sent_at ends_so.places calls wire) (commands_at calls (places_of c i)) (ended.Failed e) ends_so.sends) tells.5,
+  end_behind c i calls wire (all_places q) sent.whole supply t (sent_at (concat ends_so.owns ++ ends_so.places) calls wire) (some_sent supply t (sent_at (concat ends_so.owns ++ ends_so.places) calls wire) (sent_at ends_so.places calls wire) (commands_at calls (places_of c i)) (ended.Failed e) ends_so.sends) tells.5,
 )

@@ -400,7 +400,7 @@ module _ (own : List ℕ) (history : List Step) (legal : IsLegal history) where
           let command : Fields = get_more c are.2 in
           let s = taken command h.1 m.heard (succeeded are.4) in
           let asks = more_asks c are.2 s.step.command w.named s.command_is in
-          let k = next_counts command h.1 s are.4 c.id c.space w.knows asks q n known (behind h.0 command h.1 are.3 (succeeded are.4) are.0) in
+          let k = next_counts command h.1 s are.4 c.id c.space w.knows asks q n known (behind h.0 command h.1 are.3 (succeeded are.4) are.0.0) in
           let w' = behind_well c h.1 are.5 w m are.6 in
           let same = id_told h.1 are.5 k.batch are.6 k.there in
           let rest = count_turn (behind_reply are.5 c) h.0 more at s.position k.left are.7 w' (λ held. subst (IsFew history (suc s.position) k.left) same (k.few (λ zero. held (sym same ∙ zero)))) (λ place' command' bytes' h' k' less. rises h.0 place' command command' h.1 bytes' are.3 h' (succeeded are.4) k' less) in

@@ -4,6 +4,7 @@ use Rattle.std.specs.Prelude.{slice_get}
 use Rattle.mg_bson.specs.Raw.{fields}
 use Rattle.mg_bson.specs.Tree.{Fields}
 use Rattle.mg_link.specs.Files.{chunks_space, files_space}
+use Rattle.mg_link.specs.Calls.{Past}
 use Rattle.mg_link.specs.Log.{Call}
 use Rattle.mg_link.specs.Owner.{IsOf}
 use Rattle.mg_options.specs.Fields.{Line, fields_in}
@@ -15,7 +16,7 @@ use Rattle.mg_gridfs.specs.declared.indexes.Place.{Place}
 use Rattle.mg_gridfs.specs.declared.indexes.Place.TheVariants as place
 use Rattle.mg_players.specs.Causes.{Course, command_at, commands_at, places_of}
 use Rattle.mg_jobs.proofs.PlacesRise.{Rise, below_others, of_either, of_first, of_rise, of_second, rise_above}
-use Rattle.mg_players.specs.PutChecks.{AreGetMores, CheckSends, SendsBefore, SendsList, SendsPart, SendsWhole, any_find, creation, index_creation, listing, to_creation, to_find, to_index, to_listing, to_part}
+use Rattle.mg_players.specs.PutChecks.{AreGetMores, CheckSends, SendsBefore, SendsIndex, SendsList, SendsPart, SendsWhole, any_find, creation, index_creation, listing, to_creation, to_find, to_index, to_list, to_listing, to_part, where_missing}
 use Rattle.mg_players.specs.PutSends.{of_check, reads_on, ChunkPieces, IsCheckCommand, PutSends, chunks_removal, record_at, record_insert, removal_if}
 use Rattle.mg_players.specs.Puts.{PutTask, Supply, put_bucket}
 use Rattle.mg_players.proofs.PutWhich.{IntoChunks, check_no_record, check_no_removal, chunks_no_record, chunks_no_removal, record_no_removal}
@@ -122,7 +123,7 @@ each_time : (P : Fields → Type 0) (n : ℕ) (x : Fields) → P x → Each P (r
 each_time P zero x its = tt
 each_time P (suc n) x its = (its, each_time P n x its)
 
-module _ (b : ClientBucket) where
+module _ (past : Past) (b : ClientBucket) where
   abbrev pub AreOfCheck : List Fields → Type 0
   AreOfCheck commands = Each (IsCheckCommand b) commands
 
@@ -140,26 +141,28 @@ module _ (b : ClientBucket) where
   list_each k commands s =
       subst AreOfCheck (sym s.parts) (created k, each_on (IsCheckCommand b) (replicate s.asked (listing b k)) s.mores (so_often s.asked (listing_lines b k) (a_listing k refl)) (mores_each s.mores s.read_on))
 
-  whole_each : (k : Place) (commands : List Fields) → SendsWhole b k commands → AreOfCheck commands
-  whole_each k commands s =
-      let e = s.ends in
-      subst AreOfCheck (sym e.parts) (each_on (IsCheckCommand b) e.list (replicate s.count (index_creation b k)) (list_each k e.list e.listed) (so_often s.count (index_lines b k) (an_index k refl)))
+  index_each : (k : Place) (count : ℕ) (commands : List Fields) → SendsIndex b k count commands → AreOfCheck commands
+  index_each k count commands e = subst AreOfCheck (sym e.parts) (each_on (IsCheckCommand b) e.list (replicate count (index_creation b k)) (list_each k e.list e.listed) (so_often count (index_lines b k) (an_index k refl)))
 
-  part_each : (k : Place) (commands : List Fields) → SendsPart b k commands → AreOfCheck commands
+  whole_each : (k : Place) (commands : List Fields) → SendsWhole past b k commands → AreOfCheck commands
+  whole_each k commands s = index_each k (where_missing s.found) commands s.ends
+
+  part_each : (k : Place) (commands : List Fields) → SendsPart past b k commands → AreOfCheck commands
   part_each k commands (to_creation n few is) = subst AreOfCheck (sym is) (so_often n (creation_lines b k) (a_creation k refl))
-  part_each k commands (to_listing n few is) = subst AreOfCheck (sym is) (created k, so_often n (listing_lines b k) (a_listing k refl))
-  part_each k commands (to_index whole) = whole_each k commands whole
+  part_each k commands (to_listing heard n few is) = subst AreOfCheck (sym is) (created k, so_often n (listing_lines b k) (a_listing k refl))
+  part_each k commands (to_list heard list) = list_each k commands list
+  part_each k commands (to_index heard listed n few ends) = index_each k n commands ends
 
   find_each : (n : ℕ) (commands : List Fields) → commands ≡ replicate n (any_find b) → AreOfCheck commands
   find_each n commands is = subst AreOfCheck (sym is) (so_often n (any_lines b) (a_find refl))
 
-  before_each : (k : Place) (commands : List Fields) → SendsBefore b k commands → AreOfCheck commands
-  before_each place.Files commands s = find_each s.count commands s.parts
+  before_each : (k : Place) (commands : List Fields) → SendsBefore past b k commands → AreOfCheck commands
+  before_each place.Files commands s = find_each s.0.count commands s.0.parts
   before_each place.Chunks commands h =
-      let find = h.3 in
+      let find = h.3.0 in
       subst AreOfCheck (sym h.2) (each_on (IsCheckCommand b) h.0 h.1 (find_each find.count h.0 find.parts) (whole_each place.Files h.1 h.4))
 
-  check_each : (commands : List Fields) → CheckSends b commands → AreOfCheck commands
+  check_each : (commands : List Fields) → CheckSends past b commands → AreOfCheck commands
   check_each commands (to_find n few is) = find_each n commands is
   check_each commands (to_part k h) = subst AreOfCheck (sym h.parts) (each_on (IsCheckCommand b) h.front h.part (before_each k h.front h.before) (part_each k h.part h.its))
 
@@ -212,7 +215,7 @@ few_removals : (t : PutTask) (removed : Bool) → length (removal_if t removed) 
 few_removals t false = omega arith
 few_removals t true = omega arith
 
-module _ (supply : Supply) (t : PutTask) (c : Course) (i : ℕ) (calls : List Call) (upto : ℕ) (moment : Option ℤ) (removed : Bool) (s : PutSends supply t (commands_at calls (places_of c i)) upto moment removed) (files : IsNamed (files_space t.at)) (chunks : IsNamed (chunks_space t.at)) where
+module _ (supply : Supply) (t : PutTask) (ever : Past) (c : Course) (i : ℕ) (calls : List Call) (upto : ℕ) (moment : Option ℤ) (removed : Bool) (s : PutSends supply t ever (commands_at calls (places_of c i)) upto moment removed) (files : IsNamed (files_space t.at)) (chunks : IsNamed (chunks_space t.at)) where
   checking : Parts calls (places_of c i) s.check (s.chunks ++ (record_at t moment ++ removal_if t removed))
   checking = parts_at calls (places_of c i) s.check (s.chunks ++ (record_at t moment ++ removal_if t removed)) s.parts
 
@@ -241,7 +244,7 @@ module _ (supply : Supply) (t : PutTask) (c : Course) (i : ℕ) (calls : List Ca
   rise = subst (Rise c.begun) whole (of_rise c i)
 
   checks_there : (p : ℕ) (call : Call) → IsOf A p → slice_get calls p ≡ Some call → IsCheckCommand (put_bucket t) (fields call.command)
-  checks_there = each_at (IsCheckCommand (put_bucket t)) calls A (subst (Each (IsCheckCommand (put_bucket t))) (sym checking.first) (check_each (put_bucket t) s.check s.of_check))
+  checks_there = each_at (IsCheckCommand (put_bucket t)) calls A (subst (Each (IsCheckCommand (put_bucket t))) (sym checking.first) (check_each ever (put_bucket t) s.check s.of_check))
 
   chunks_there : (p : ℕ) (call : Call) → IsOf B p → slice_get calls p ≡ Some call → IntoChunks t (fields call.command)
   chunks_there = each_at (IntoChunks t) calls B (subst (Each (IntoChunks t)) (sym inserting.first) (chunks_each supply t 0 s.chunks upto s.pieces))

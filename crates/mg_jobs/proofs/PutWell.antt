@@ -59,7 +59,7 @@ module _ (own : List ℕ) (history : List Step) (legal : IsLegal history) (past 
   check_well e (fails.not_asked c l cannot) = inr (asked_excused own history legal past heard t lost taken hears files chunks c e l cannot)
   check_well e (fails.by_more c l failed) = room e (more_well own history legal past heard t lost taken hears files chunks c e l failed)
   check_well e (fails.broken bytes batch breaks) = absurd (never_broken own history legal past heard t lost taken hears files chunks bytes e batch breaks)
-  check_well e (fails.stays_empty c l many is) = absurd (never_empty own history legal past heard t lost taken hears files chunks c l many)
+  check_well e (fails.stays_empty c l many last is) = absurd (never_empty own history legal past heard t lost taken hears files chunks c l many)
   check_well e (fails.no_index document listed failed) = room e (lists.index_well own history legal past heard t lost taken hears files chunks document e listed failed)
   check_well e (fails.too_many c l many is) = absurd (never_too_many own history legal past heard t lost taken hears files chunks rises few c l many)
 

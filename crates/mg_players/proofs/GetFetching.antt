@@ -52,12 +52,13 @@ use Rattle.mg_players.specs.Gets.{GetTask, chunks_find}
 use Rattle.mg_players.specs.Reading as stops
 use Rattle.mg_players.specs.InTurn.{empty_with, newest}
 use Rattle.mg_players.specs.Reading.{CountsRow, HeardEmpty, HeardHeld, IsListed, IsQueried, ListsOther, ReadStops, WherePrompt, empties}
-use Rattle.mg_players.proofs.GetCounting.{count_behind, count_of, counts_behind, counts_grow, counts_waiting, few_behind, heard_too_many, none_in_batch, took_on}
+use Rattle.mg_players.proofs.GetCounting.{count_behind, count_of, counts_behind, counts_waiting, few_behind, heard_too_many, none_in_batch, took_on}
 use Rattle.mg_players.proofs.GetDiffering.{batch_differs}
 use Rattle.mg_players.proofs.GetListing.{batch_there, differs_by, documents_same, documents_there, list_asks, list_step, more_step, told_named}
 use Rattle.mg_players.proofs.GetReading.{held_grows, listed_grow}
 use Rattle.mg_players.proofs.GetSteps.{more_over, more_same, prompt_at, query_at, query_prompt}
-use Rattle.mg_players.proofs.InTurn.{BatchFrom, NextLater, batch_from, came_later, from_hand, from_reply, near, pending_more}
+use Rattle.mg_players.proofs.InTurn.{BatchFrom, NextLater, batch_from, came_later, from_hand, from_reply, near, pending_more, sends_one}
+use Rattle.mg_players.proofs.JustGrown.{log_just}
 
 -- ---- one poll
 
@@ -257,8 +258,7 @@ module _ (g : GetTask) (P : List ℕ) (L : ℕ) (wire : ℤ) (bytes : List ℕ) 
       knows : KnowsRead calls' (reader_in new behind (told_next r s.know.reader))
       lists : IsListed (past_of P L calls' wire) g d.file k c
       held : HeardHeld (past_of P L calls' wire) g d.file begun
-      counts : CountsRow old (past_of N L calls' wire) begun c k
-      later : NextLater new (past_of N L calls' wire) c behind r (newest 0 counts.replies)
+      later : NextLater new (past_of N L calls' wire) c behind r (newest 0 s.counts.replies)
 
     came_grows : (past past' : Past) → Grows past past' → (behind : ClientCursor) (r : NextPoll) → NextCame new past None c behind r → NextCame new past' None c behind r
     came_grows past past' grows behind next.Pending h = underway_grow past past' grows new behind behind.doing h
@@ -280,6 +280,7 @@ module _ (g : GetTask) (P : List ℕ) (L : ℕ) (wire : ℤ) (bytes : List ℕ) 
         let by = near old (past_of N L calls wire) c most s.counts.waits s.sound s.under_call in
         let y = next_caused old new log log' wire None started c behind r (sound_in_any true c s.sound) polls calls s.told by.places by.under in
         let as_one : y.0 ≡ x.0 = same_some y.0 x.0 (sym y.1 ∙ x.1) in
+        let one = sends_one old new (past_of N L calls wire) log log' wire started c behind r most s.told by y.0 y.1 s.sound polls in
         record {
           calls' = x.0;
           told = x.1;
@@ -288,8 +289,7 @@ module _ (g : GetTask) (P : List ℕ) (L : ℕ) (wire : ℤ) (bytes : List ℕ) 
           knows = subst (λ (l : List Call). KnowsRead l (reader_in new behind (told_next r s.know.reader))) same (n.2.knows s.know.knows);
           lists = listed_grow (past_of P L calls wire) (past_of P L x.0 wire) (log_grows P L calls x.0 wire x.2) onward g d.file k c s.lists;
           held = held_grows (past_of P L calls wire) (past_of P L x.0 wire) (log_grows P L calls x.0 wire x.2) g d.file begun s.held;
-          counts = counts_grow (past_of N L calls wire) (past_of N L x.0 wire) (log_grows N L calls x.0 wire x.2) old old begun c k (λ m held. refl) s.counts;
-          later = subst (λ (l : List Call). NextLater new (past_of N L l wire) c behind r most) as_one (came_later new N by.places L calls y.0 wire s.room most s.counts.within by.own by.later c behind r y.3);
+          later = subst (λ (l : List Call). NextLater new (past_of N L l wire) c behind r most) as_one (came_later old new N L calls y.0 wire s.room c behind r most s.counts.within by s.counts.alone one r refl y.3);
         }
 
     at_c : (started : Bool) (x behind : ClientCursor) (r : NextPoll) (m' k' : ℕ) → d.doing ≡ reads x m' k' → PollsNext old new log log' wire None started x behind r → PollsNext old new log log' wire None started c behind r
@@ -320,7 +320,7 @@ module _ (g : GetTask) (P : List ℕ) (L : ℕ) (wire : ℤ) (bytes : List ℕ) 
       many_so (from_hand at is) none many = let first = (p.lists.held reply at).0 in absurd (omega (arith, many, first))
       many_so (from_reply none_in may said says is) none many =
           heard_too_many (past_of P L p.calls' wire) (past_of N L p.calls' wire) g d.file begun behind k reply p.held
-          (took_on old (past_of N L p.calls' wire) begun c behind k reply p.counts (from_reply none_in may said says is) p.later) (none_in_batch reply said says none) p.counts.few many
+          (took_on old (past_of N L calls wire) (past_of N L p.calls' wire) (log_just N L calls p.calls' wire p.keeps) begun c behind k reply s.counts (from_reply none_in may said says is) p.later.0 p.later.1) (none_in_batch reply said says none) s.counts.few many
 
       stops_so : (e : Error) → BatchFrom c behind reply → (e ≡ plain kind.OutOfMemory) ⊎ SpoilsBatch k reply d e → ReadStops (past_of P L p.calls' wire) (HeardEmpty (past_of P L p.calls' wire) (past_of N L p.calls' wire) g d.file) (ListsOther p.calls' g.at d.file listed e) e
       stops_so e from (inl memory) = stops.no_memory (ap (λ (x : Error). x.kind) memory)
@@ -362,7 +362,7 @@ module _ (g : GetTask) (P : List ℕ) (L : ℕ) (wire : ℤ) (bytes : List ℕ) 
             ap (λ (y : ClientDownload). y.doing) is,
             subst (λ (n : ℕ). IsListed (past_of P L p.calls' wire) g d.file n behind) (sym same) (quiet_listed g (past_of P L p.calls' wire) d k c behind (quietly old new log log' wire started c behind next.Pending tt here) p.lists),
             p.held,
-            subst (λ (n : ℕ). CountsRow new (past_of N L p.calls' wire) begun behind n) (sym same) (counts_waiting old new (past_of N L p.calls' wire) begun c behind k p.counts (pending_more old new log log' wire started c behind here) p.later),
+            subst (λ (n : ℕ). CountsRow new (past_of N L p.calls' wire) begun behind n) (sym same) (counts_waiting old new (past_of N L calls wire) (past_of N L p.calls' wire) (log_just N L calls p.calls' wire p.keeps) begun c behind k s.counts (pending_more old new log log' wire started c behind here) p.later),
           );
         }
     ends_stopped f (no_more x m' k' there short started behind e polls is answer) =
@@ -416,7 +416,7 @@ module _ (g : GetTask) (P : List ℕ) (L : ℕ) (wire : ℤ) (bytes : List ℕ) 
         let rests = next_rests old new log log' wire one.started c one.behind (next.Batch one.reply) tt polls in
         let call : Past = past_of N L p.calls' wire in
         let same = same_empty one.cursor c one.missing m one.empty k (sym one.at ∙ s.doing) in
-        let took = took_on old call begun c one.behind k one.reply p.counts (batch_from old new log log' wire one.started c one.behind one.reply s.sound polls) p.later in
+        let took = took_on old (past_of N L calls wire) call (log_just N L calls p.calls' wire p.keeps) begun c one.behind k one.reply s.counts (batch_from old new log log' wire one.started c one.behind one.reply s.sound polls) p.later.0 p.later.1 in
         let in_row : so.1 ≡ empty_with k (documents_of one.reply)
         = so.4 ∙ ap (λ (n : ℕ). count_behind n t.chunks) same ∙ count_of d.file d.taken k t.chunks b.documents one.reply t.array t.is_array t.bytes_are b.these b.received in
         record {

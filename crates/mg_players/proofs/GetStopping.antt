@@ -172,7 +172,7 @@ module _ (old new : Awaited) (log log' : LogTold) (wire : ℤ) (g : GetTask) (d 
           counted = sound.sizes.counted;
           under_call = under_call c (ap cursor_in is);
           held = λ bytes holding. ((lists_at (idle c) c is refl).held bytes holding).1.heard;
-          counts = counts_begin old call c (sound_at (idle c) is).2 some_calls;
+          counts = counts_begin old call c (sound_at (idle c) is).2 some_calls (subst (λ (x : Doing). CountsIn old before call g d.file x) is counts);
         }) fills
     read_leaves room (steps.goes_on some c m k is fills) =
         let so = (sound_at (reads c m k) is).1 in

@@ -22,11 +22,12 @@ use Rattle.mg_players.specs.Telling.{GetTells, TellsAsked, TellsGetEnd, TellsGet
 use Rattle.mg_players.specs.declared.get.GetStage.{GetStage}
 use Rattle.mg_players.specs.declared.get.GetStage.TheVariants as gets
 use Rattle.mg_players.proofs.Commands.{falls_later}
-use Rattle.mg_players.proofs.GetAdding.{asks_later}
+use Rattle.mg_players.proofs.GetAdding.{all_below, asks_later}
 use Rattle.mg_players.proofs.GetNewest.{download_kept, finding_kept}
 use Rattle.mg_players.proofs.GetCounting.{counts_in_grow, heard_empty_grows}
 use Rattle.mg_players.proofs.GetReading.{held_grows, lists_grow, other_grows, stops_grow}
-use Rattle.mg_players.proofs.Telling.{grows_later}
+use Rattle.mg_players.proofs.JustGrown.{SendsNoMore, later_just}
+use Rattle.mg_players.proofs.Telling.{grows_later, in_second}
 
 -- ---- others
 
@@ -41,6 +42,10 @@ module _ (calls calls' : List Call) (wire : ℤ) (keeps : Keeps calls calls') (o
     finds = falls_later (IsFindAt g (Some f)) calls calls' 5 q.opened 1 keeps t.finds;
     more = asks_later calls calls' keeps (all_places q) (concat q.owns ++ q.now) t.more;
   }
+
+  -- what goes on, or ended it
+  pub now_later : (f : FileRecord) (at : Option ℕ) → TellsGetOpened calls wire q g f at → SendsNoMore (sent_at q.now calls wire) (sent_at q.now calls' wire)
+  now_later f at t = later_just q.now calls calls' wire keeps (λ place of. all_below calls q t.finds.within t.more place (in_second q.opened (concat q.owns ++ q.now) place (in_second (concat q.owns) q.now place of)))
 
   asked_later : (done : ℕ) → TellsAsked calls wire q g done → TellsAsked calls' wire q g done
   asked_later done (tells.in_opening silent first found a) = tells.in_opening silent first found (record {
@@ -58,7 +63,7 @@ module _ (calls calls' : List Call) (wire : ℤ) (keeps : Keeps calls calls') (o
       (held_grows (sent_at (all_places q) calls wire) (sent_at (all_places q) calls' wire) (later (all_places q)) g d.file cursor held)
       (stops_grow (sent_at (all_places q) calls wire) (sent_at (all_places q) calls' wire) (later (all_places q)) onward
       (ListsOther calls g.at d.file listed e) (ListsOther calls' g.at d.file listed e)
-      (heard_empty_grows (sent_at q.now calls wire) (sent_at q.now calls' wire) (later q.now) (sent_at (all_places q) calls wire) (sent_at (all_places q) calls' wire) (later (all_places q)) g d.file) (other_grows calls calls' g.at d.file listed e onward) e why)
+      (heard_empty_grows (sent_at q.now calls wire) (sent_at q.now calls' wire) (now_later d.file at opened) (sent_at (all_places q) calls wire) (sent_at (all_places q) calls' wire) (later (all_places q)) g d.file) (other_grows calls calls' g.at d.file listed e onward) e why)
 
   end_later : (end : Ended (Unit {0})) (done : ℕ) (at : Option ℕ) → TellsGetEnd calls wire q g done at end → TellsGetEnd calls' wire q g done at end
   end_later ended.Unfinished done at t = tt
@@ -84,6 +89,6 @@ get_tells_later old new calls calls' wire q g (gets.Reads download room) done at
   t.4,
   lists_grow (sent_at (all_places q) calls wire) (sent_at (all_places q) calls' wire) (grows_later (all_places q) calls calls' wire keeps) onward g (download_of download) t.5,
   download_kept calls calls' keeps (λ (n : ℕ). IsOf (all_places q) n) (λ (n : ℕ). IsOf (all_places q) n) (λ place of. of) (λ place of. of) old new (download_of download) same t.6,
-  counts_in_grow (sent_at q.now calls wire) (sent_at q.now calls' wire) (grows_later q.now calls calls' wire keeps) (sent_at (all_places q) calls wire) (sent_at (all_places q) calls' wire) (grows_later (all_places q) calls calls' wire keeps) g (download_of download).file old new (download_of download).doing same t.7,
+  counts_in_grow (sent_at q.now calls wire) (sent_at q.now calls' wire) (now_later calls calls' wire keeps onward q g (download_of download).file at t.0) (sent_at (all_places q) calls wire) (sent_at (all_places q) calls' wire) (grows_later (all_places q) calls calls' wire keeps) g (download_of download).file old new (download_of download).doing same t.7,
 )
 get_tells_later old new calls calls' wire q g (gets.Ended end) done at keeps onward same t = end_later calls calls' wire keeps onward q g end done at t

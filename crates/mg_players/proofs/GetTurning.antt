@@ -46,7 +46,7 @@ use Rattle.mg_players.specs.Asking.{AllAskOn, DownloadLast, FindingLast}
 use Rattle.mg_players.specs.Causes.{FallsAt, sent_at, sent_since}
 use Rattle.mg_players.specs.Gets.{AsksForMore, AsksPlainly, GetKnowsAt, GetTask, IsFindAt, IsGetCommand, IsOpeningFor, KeepsRead, OpensAs, done_behind, get_bucket, get_owner, room_of, sought}
 use Rattle.mg_players.specs.Plays.{Moves, MovesTo, Places, all_places, by_finding, no_move}
-use Rattle.mg_players.specs.Reading.{CountsIn, HeardHeld, ListsIts, ListsOther}
+use Rattle.mg_players.specs.Reading.{CountsIn, HeardHeld, ListsIts, ListsOther, SentNone}
 use Rattle.mg_players.specs.Telling as tells
 use Rattle.mg_players.specs.Telling.{FindsSoFar, GetTell, GetTells, GetTurns, TellsGetFails, TellsGetOpened, TellsNoCall, finding_places}
 use Rattle.mg_players.specs.declared.get.GetPlayer.{GetPlayer}
@@ -64,6 +64,7 @@ use Rattle.mg_players.proofs.GetSending.{IsGiving, IsNewDownload, ReadsOn, found
 use Rattle.mg_players.proofs.GetListed.{opened_listed, opening_listed}
 use Rattle.mg_players.proofs.GetReading.{grows_among, held_grows, lists_grow, stops_grow}
 use Rattle.mg_players.proofs.GetStopping.{ReadLeaves, read_leaves}
+use Rattle.mg_players.proofs.JustGrown.{SendsNoMore, ended_just}
 use Rattle.mg_players.proofs.Telling.{answered_by, extends_answered, extends_going, extends_opened, extends_same, going_on, grows_ended, grows_later, in_first, in_second, is_since, keeps_to, opened_by, same_told}
 use Rattle.mg_players.proofs.Whole.{whole_answered, whole_going}
 
@@ -92,11 +93,15 @@ listed_within : (awaited : Awaited) (calls : List Call) (g : GetTask) (d : Clien
 listed_within awaited calls g d bytes listed gives k = let f = k.of_record.front in listed_by awaited calls d g bytes f.place listed f.call d.doing f.found gives k.by
 
 -- between its calls it counts no empty batches
-giving_counts : (awaited : Awaited) (past call : Past) (g : GetTask) (f : FileRecord) (doing : Doing) → IsGiving doing → CountsIn awaited past call g f doing
-giving_counts awaited past call g f (downloads.idle cursor) gives = tt
-giving_counts awaited past call g f (downloads.reads cursor missing empty) gives = absurd gives
-giving_counts awaited past call g f downloads.ended gives = tt
-giving_counts awaited past call g f downloads.spoiled gives = tt
+giving_counts : (awaited : Awaited) (past call : Past) (g : GetTask) (f : FileRecord) (doing : Doing) → IsGiving doing → SentNone call → CountsIn awaited past call g f doing
+giving_counts awaited past call g f (downloads.idle cursor) gives none = none
+giving_counts awaited past call g f (downloads.reads cursor missing empty) gives none = absurd gives
+giving_counts awaited past call g f downloads.ended gives none = tt
+giving_counts awaited past call g f downloads.spoiled gives none = tt
+
+-- a call that is to begin has sent nothing
+none_yet : (calls : List Call) (wire : ℤ) → SentNone (sent_at [] calls wire)
+none_yet calls wire place of = elim of.0 [ inl among ↦ absurd among | inr beyond ↦ (let within = of.1 in omega (arith, within, beyond)) ]
 
 -- a call that is waited for has the ticket that is held
 record Waited (awaited : Awaited) (ticket : Option ℕ) (place : ℕ) : Type 0 where
@@ -326,7 +331,7 @@ module _ (old new : Awaited) (log log' : LogTold) (wire : ℤ) (job : GetPlayer)
             new_plain d new_one,
             lists_grow (past_of q.now (length calls) calls' wire) (sent_at (all_places q') calls' wire) (opened_grows_to calls calls' q) (onward_refl calls' nobody) g d lists,
             opened_last calls' (sent_since q.now (length calls) (length calls')) last,
-            giving_counts new (sent_at (all_places q') calls' wire) (sent_at q'.now calls' wire) g d.file d.doing (new_giving d new_one),
+            giving_counts new (sent_at (all_places q') calls' wire) (sent_at q'.now calls' wire) g d.file d.doing (new_giving d new_one) (none_yet calls' wire),
           );
           extends = extends_opened q job.done done (length calls) (length calls') first t.0.0 t.0.1 room;
           adds = adds;
@@ -414,12 +419,12 @@ fails_unsent awaited log wire job e first why = record {
 -- ---- a read
 
 -- how it stands, or why it failed, in a later log
-module _ (awaited : Awaited) (past past' call call' : Past) (grows : Grows past past') (grows_call : Grows call call') (onward : Onward past.calls past'.calls nobody) (calls : List Call) (g : GetTask) (f : FileRecord) (listed : ℕ) (d : ClientDownload) where
+module _ (awaited : Awaited) (past past' call call' : Past) (grows : Grows past past') (still : SendsNoMore call call') (onward : Onward past.calls past'.calls nobody) (calls : List Call) (g : GetTask) (f : FileRecord) (listed : ℕ) (d : ClientDownload) where
   leaves_grow : (r : ReadPoll) → ReadLeaves awaited past call calls g f listed d r → ReadLeaves awaited past' call' calls g f listed d r
-  leaves_grow read.Pending l = (lists_grow past past' grows onward g d l.0, counts_in_grow call call' grows_call past past' grows g d.file awaited awaited d.doing (λ m e. refl) l.1)
+  leaves_grow read.Pending l = (lists_grow past past' grows onward g d l.0, counts_in_grow call call' still past past' grows g d.file awaited awaited d.doing (λ m e. refl) l.1)
   leaves_grow (read.Read n) l = lists_grow past past' grows onward g d l
   leaves_grow (read.Failed e) l =
-      stops_grow past past' grows onward (ListsOther calls g.at f listed e) (ListsOther calls g.at f listed e) (heard_empty_grows call call' grows_call past past' grows g f) (λ s. s) e l
+      stops_grow past past' grows onward (ListsOther calls g.at f listed e) (ListsOther calls g.at f listed e) (heard_empty_grows call call' still past past' grows g f) (λ s. s) e l
 
 module _ (old new : Awaited) (log log' : LogTold) (wire : ℤ) (job : GetPlayer) (download : GridFsDownloadStream) (hand : Vec ℕ Global) (sound : IsDownload download) (some : 0 < job.what.read) (d' : ClientDownload) (r : ReadPoll) (given : List ℕ)
     (reads_so : Reads old new log log' wire (length hand.items) (download_of download) d' given r) (caused : ReadCaused old new log log' wire (download_of download) d' r) where
@@ -480,7 +485,7 @@ module _ (old new : Awaited) (log log' : LogTold) (wire : ℤ) (job : GetPlayer)
       = subst (λ (c : List Call). ReadLeaves new (past_of all (length calls) c wire) (past_of q.now (length calls) c wire) c task before.file k.0 d' r) (same_told log' x.calls' calls' x.told' told') x.leaves in
       let now : Past = sent_at (sent_since q.now (length calls) (length calls')) calls' wire in
       subst (λ (l : List ℕ). ReadLeaves new (sent_at l calls' wire) now calls' task before.file k.0 d' r) (sym whole)
-      (leaves_grow new (past_of all (length calls) calls' wire) (sent_at (sent_since all (length calls) (length calls')) calls' wire) (past_of q.now (length calls) calls' wire) now (grows_ended all (length calls) calls' wire) (grows_ended q.now (length calls) calls' wire) (onward_refl calls' nobody) calls' task before.file k.0 d' r here)
+      (leaves_grow new (past_of all (length calls) calls' wire) (sent_at (sent_since all (length calls) (length calls')) calls' wire) (past_of q.now (length calls) calls' wire) now (grows_ended all (length calls) calls' wire) (ended_just q.now (length calls) calls' wire (come_to calls calls' told told' q at t).room) (onward_refl calls' nobody) calls' task before.file k.0 d' r here)
 
   -- what its opening heard is told so by a later log, where more chunks were asked for
   still_opened : (calls calls' : List Call) (q q' : Places) (f f' : FileRecord) (at : Option ℕ) → Keeps calls calls' → q'.opened ≡ q.opened → f' ≡ f → (AllAskOn calls (all_places q) (concat q.owns ++ q.now) → AllAskOn calls' (all_places q') (concat q'.owns ++ q'.now)) → TellsGetOpened calls wire q task f at → TellsGetOpened calls' wire q' task f' at
@@ -640,7 +645,7 @@ module _ (old new : Awaited) (log log' : LogTold) (wire : ℤ) (job after : GetP
           on.plain,
           left_by old new log log' wire job download hand sound some (download_of download') (read.Read count) given reads_so caused calls calls' told told' q q' at k t (extends_answered q job.done after.done (length calls) (length calls') (sym counted) c.room).whole,
           subst (λ (l : List ℕ). DownloadLast new calls' (λ (n : ℕ). IsOf l n) (download_of download')) (sym (whole_answered q (length calls) (length calls'))) c.behind.last,
-          giving_counts new (sent_at (all_places q') calls' wire) (sent_at q'.now calls' wire) aim (download_of download').file (download_of download').doing (gives_so keeps.0),
+          giving_counts new (sent_at (all_places q') calls' wire) (sent_at q'.now calls' wire) aim (download_of download').file (download_of download').doing (gives_so keeps.0) (none_yet calls' wire),
         );
         extends = extends_answered q job.done after.done (length calls) (length calls') (sym counted) c.room;
         adds = c.adds;

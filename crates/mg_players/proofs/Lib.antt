@@ -45,6 +45,8 @@ pub mod PutBuckets
 pub mod PutOpening
 pub mod PutDriving
 pub mod InTurn
+pub mod NewestHeard
+pub mod JustGrown
 pub mod PutListing
 pub mod PutCreated
 pub mod PutChecked
@@ -58,6 +60,8 @@ pub mod PutSupplied
 pub mod PutChunks
 pub mod PutCommands
 pub mod PutChecks
+pub mod PutHeard
+pub mod PutGrowing
 pub mod PutNext
 pub mod PutOrder
 pub mod PutOrdered

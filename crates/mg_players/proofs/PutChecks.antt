@@ -4,7 +4,7 @@ use Rattle.std.proofs.lemmas.List.{map-append, replicate-append-replicate}
 use Rattle.std.specs.Prelude.{slice_get}
 use Rattle.mg_bson.specs.Raw.{fields}
 use Rattle.mg_bson.specs.Tree.{Fields}
-use Rattle.mg_link.specs.Calls.{AddsOnly}
+use Rattle.mg_link.specs.Calls.{AddsOnly, Past}
 use Rattle.mg_link.specs.Errors.{command_code, plain}
 use Rattle.mg_link.specs.Exec.{Attempt, AttemptFails, AttemptGives, Begins, GoesOn, Runs, Sending, Stage, Tries, answered, first, holding, is_repeated, is_retried_attempt, not_sent, second, unsent, waits}
 use Rattle.mg_link.specs.Link.{Adds, Awaited, LogTold, Sees}
@@ -26,7 +26,8 @@ use Rattle.mg_gridfs.specs.Checks as check
 use Rattle.mg_gridfs.specs.Checks.{Builds, CheckTurned, ChecksOn, ClientCheck, Creates, EndsList, GoesBehind, HearsAdvance, HearsAny, HearsCreation, HearsFind, HearsIndex, HearsIndexed, HearsList, HearsListing, IsSoundCheck, Looks, by_advance, by_creation, by_find, by_index, by_listing, creates, finds, indexes, lists, namespace_exists, reads}
 use Rattle.mg_gridfs.specs.declared.indexes.Place.{Place}
 use Rattle.mg_gridfs.specs.declared.indexes.Place.TheVariants as place
-use Rattle.mg_players.specs.PutChecks.{AreGetMores, CheckPasses, CheckSends, CheckSentAt, IsGetMore, SendsBefore, SendsBehind, SendsCreation, SendsFind, SendsIndex, SendsList, AsksForList, SendsPart, SendsWhole, any_find, count_at, creation, index_creation, listing, most_often, to_creation, to_find, to_index, to_listing, to_part}
+use Rattle.mg_players.specs.PutChecks.{AreGetMores, CheckPasses, CheckSends, CheckSentAt, IsGetMore, SendsBefore, SendsBehind, SendsCreation, SendsFind, SendsIndex, SendsList, AsksForList, SendsPart, SendsWhole, any_find, count_at, creation, index_creation, listing, most_often, to_creation, to_find, to_index, to_list, to_listing, to_part, where_missing}
+use Rattle.mg_players.specs.PutFailures.{HeardCreation, HeardIndexes, HeardNone, HeardSome, HeardWhole}
 use Rattle.mg_players.specs.Sends.{CheckFlies}
 use Rattle.mg_players.proofs.PutChecking.{AddsTold, seeks_send}
 
@@ -198,11 +199,11 @@ mores_told (Some calls) log' adds =
 times_more : (part : List Fields) (count more : ℕ) (command : Fields) → part ≡ replicate count command → part ++ replicate more command ≡ replicate (count + more) command
 times_more part count more command is = ap (λ (l : List Fields). l ++ replicate more command) is ∙ replicate-append-replicate count more command
 
-module _ (b : ClientBucket) (at : Place) where
-  behind_as : (P Q : List Fields → Type 0) (commands : List Fields) → ((part : List Fields) → P part → Q part) → SendsBehind b at P commands → SendsBehind b at Q commands
+module _ (past : Past) (b : ClientBucket) (at : Place) where
+  behind_as : (P Q : List Fields → Type 0) (commands : List Fields) → ((part : List Fields) → P part → Q part) → SendsBehind past b at P commands → SendsBehind past b at Q commands
   behind_as P Q commands f h = record { front = h.front; part = h.part; parts = h.parts; before = h.before; its = f h.part h.its }
 
-  behind_on : (P Q : List Fields → Type 0) (commands more : List Fields) → ((part : List Fields) → P part → Q (part ++ more)) → SendsBehind b at P commands → SendsBehind b at Q (commands ++ more)
+  behind_on : (P Q : List Fields → Type 0) (commands more : List Fields) → ((part : List Fields) → P part → Q (part ++ more)) → SendsBehind past b at P commands → SendsBehind past b at Q (commands ++ more)
   behind_on P Q commands more f h = record {
     front = h.front;
     part = h.part ++ more;
@@ -211,79 +212,139 @@ module _ (b : ClientBucket) (at : Place) where
     its = f h.part h.its;
   }
 
-  -- a list is whole where no index is created
-  list_whole : (part : List Fields) → SendsList b at part → SendsWhole b at part
-  list_whole part list = record { count = 0; once = omega arith; ends = record { list = part; parts = sym (append-nil part); listed = list } }
+  -- behind a list no index is created yet
+  index_none : (part : List Fields) → SendsList b at part → SendsIndex b at 0 part
+  index_none part list = record { list = part; parts = sym (append-nil part); listed = list }
 
-  of_creation : (count : ℕ) → count ≤ 1 → (commands : List Fields) → SendsBehind b at (SendsCreation b at count) commands → CheckSends b commands
-  of_creation count few commands h = to_part at (behind_as (SendsCreation b at count) (SendsPart b at) commands (λ part its. to_creation count few its) h)
+  -- nor is it where it was found
+  list_whole : HeardWhole past b at true → (part : List Fields) → SendsList b at part → SendsWhole past b at part
+  list_whole heard part list = record { found = true; ends = index_none part list; heard = heard }
 
-  of_listing : (count : ℕ) → count ≤ 2 → (commands : List Fields) → SendsBehind b at (AsksForList b at count) commands → CheckSends b commands
-  of_listing count few commands h = to_part at (behind_as (AsksForList b at count) (SendsPart b at) commands (λ part its. to_listing count few its) h)
+  whole_by : (found : Bool) (part : List Fields) → SendsIndex b at (where_missing found) part → HeardWhole past b at found → SendsPart past b at part
+  whole_by true part ends heard = to_list heard.created (subst (SendsList b at) (sym (ends.parts ∙ append-nil ends.list)) ends.listed)
+  whole_by false part ends heard = to_index heard.created heard.listed 1 (omega arith) ends
 
-  of_list : (commands : List Fields) → SendsBehind b at (SendsList b at) commands → CheckSends b commands
-  of_list commands h = to_part at (behind_as (SendsList b at) (SendsPart b at) commands (λ part its. to_index (list_whole part its)) h)
+  of_creation : (count : ℕ) → count ≤ 1 → (commands : List Fields) → SendsBehind past b at (SendsCreation b at count) commands → CheckSends past b commands
+  of_creation count few commands h = to_part at (behind_as (SendsCreation b at count) (SendsPart past b at) commands (λ part its. to_creation count few its) h)
 
-  of_index : (count : ℕ) → count ≤ 1 → (commands : List Fields) → SendsBehind b at (SendsIndex b at count) commands → CheckSends b commands
-  of_index count few commands h = to_part at (behind_as (SendsIndex b at count) (SendsPart b at) commands (λ part its. to_index (record { count = count; once = few; ends = its })) h)
+  of_listing : HeardCreation past b at → (count : ℕ) → count ≤ 2 → (commands : List Fields) → SendsBehind past b at (AsksForList b at count) commands → CheckSends past b commands
+  of_listing created count few commands h = to_part at (behind_as (AsksForList b at count) (SendsPart past b at) commands (λ part its. to_listing created count few its) h)
 
-  of_whole : (commands : List Fields) → SendsBehind b at (SendsWhole b at) commands → CheckSends b commands
-  of_whole commands h = to_part at (behind_as (SendsWhole b at) (SendsPart b at) commands (λ part its. to_index its) h)
+  of_list : HeardCreation past b at → (commands : List Fields) → SendsBehind past b at (SendsList b at) commands → CheckSends past b commands
+  of_list created commands h = to_part at (behind_as (SendsList b at) (SendsPart past b at) commands (λ part its. to_list created its) h)
+
+  of_index : HeardCreation past b at → HeardIndexes past b at false → (count : ℕ) → count ≤ 1 → (commands : List Fields) → SendsBehind past b at (SendsIndex b at count) commands → CheckSends past b commands
+  of_index created listed count few commands h = to_part at (behind_as (SendsIndex b at count) (SendsPart past b at) commands (λ part its. to_index created listed count few its) h)
+
+  of_whole : (commands : List Fields) → SendsBehind past b at (SendsWhole past b at) commands → CheckSends past b commands
+  of_whole commands h = to_part at (behind_as (SendsWhole past b at) (SendsPart past b at) commands (λ part its. whole_by its.found part its.ends its.heard) h)
 
 -- however far it has come, these are its commands
-pub check_so_far : (b : ClientBucket) (commands : List Fields) (c : ClientCheck) → CheckSentAt b commands c → CheckSends b commands
-check_so_far b commands (finds s) h = to_find (count_at true s.stage) (most_at true s.stage) h
-check_so_far b commands (creates k s) h = of_creation b k (count_at false s.stage) (most_at false s.stage) commands h
-check_so_far b commands (lists k s) h = of_listing b k (count_at true s.stage) (most_at true s.stage) commands h
-check_so_far b commands (reads k cursor found count) h = of_list b k commands h
-check_so_far b commands (indexes k s) h = of_index b k (count_at false s.stage) (most_at false s.stage) commands h
+pub check_so_far : (past : Past) (b : ClientBucket) (commands : List Fields) (c : ClientCheck) → CheckSentAt past b commands c → CheckSends past b commands
+check_so_far past b commands (finds s) h = to_find (count_at true s.stage) (most_at true s.stage) h
+check_so_far past b commands (creates k s) h = of_creation past b k (count_at false s.stage) (most_at false s.stage) commands h
+check_so_far past b commands (lists k s) h = of_listing past b k h.0 (count_at true s.stage) (most_at true s.stage) commands h.1
+check_so_far past b commands (reads k cursor found count) h = of_list past b k h.0 commands h.1
+check_so_far past b commands (indexes k s) h = of_index past b k h.0 h.1 (count_at false s.stage) (most_at false s.stage) commands h.2
 
-pub check_passed : (b : ClientBucket) (commands : List Fields) → CheckPasses b commands → CheckSends b commands
-check_passed b commands (inl find) = to_find find.count find.few find.parts
-check_passed b commands (inr whole) = of_whole b place.Chunks commands whole
+pub check_passed : (past : Past) (b : ClientBucket) (commands : List Fields) → CheckPasses past b commands → CheckSends past b commands
+check_passed past b commands (inl find) = to_find find.0.count find.0.few find.0.parts
+check_passed past b commands (inr whole) = of_whole past b place.Chunks commands whole
 
 -- it begins with nothing
-pub check_begins : (b : ClientBucket) (commands : List Fields) (s : Sending) → commands ≡ [] → s.stage ≡ unsent → CheckSentAt b commands (finds s)
-check_begins b commands s none new = none ∙ ap (λ (x : Stage). replicate (count_at true x) (any_find b)) (sym new)
+pub check_begins : (past : Past) (b : ClientBucket) (commands : List Fields) (s : Sending) → commands ≡ [] → s.stage ≡ unsent → CheckSentAt past b commands (finds s)
+check_begins past b commands s none new = none ∙ ap (λ (x : Stage). replicate (count_at true x) (any_find b)) (sym new)
 
 -- ---- what comes of a step
 
 -- the commands of a check by what its step comes to
-abbrev pub TurnSent : ClientBucket → List Fields → CheckTurned → Type 0
-TurnSent b commands (check.goes c) = CheckSentAt b commands c
-TurnSent b commands (check.pends c) = CheckSentAt b commands c
-TurnSent b commands check.passes = CheckPasses b commands
-TurnSent b commands (check.fails e) = CheckSends b commands
+abbrev pub TurnSent : Past → ClientBucket → List Fields → CheckTurned → Type 0
+TurnSent past b commands (check.goes c) = CheckSentAt past b commands c
+TurnSent past b commands (check.pends c) = CheckSentAt past b commands c
+TurnSent past b commands check.passes = CheckPasses past b commands
+TurnSent past b commands (check.fails e) = CheckSends past b commands
 
-module _ (b : ClientBucket) (commands : List Fields) where
-  turn_as : (r q : CheckTurned) → r ≡ q → TurnSent b commands q → TurnSent b commands r
-  turn_as r q is h = subst (TurnSent b commands) (sym is) h
+-- what its find heard, by what that leads to
+abbrev pub AnyHeard : {bytes : List ℕ} {r : CheckTurned} (past : Past) (b : ClientBucket) → HearsAny b bytes r → Type 0
+AnyHeard past b (check.some said read there is) = HeardSome past b
+AnyHeard past b (check.none said read empty builds) = HeardNone past b
+AnyHeard past b (check.broke e fails is) = Unit {0}
 
-  builds_sent : (again : Bool) (lines : List Line) (then : Sending → ClientCheck) (r : CheckTurned) → ((s : Sending) → s.stage ≡ unsent → CheckSentAt b commands (then s)) → CheckSends b commands → Builds again lines then r → TurnSent b commands r
+abbrev pub FindHeard : (past : Past) (b : ClientBucket) (c : Step Sending (List ℕ)) (r : CheckTurned) → HearsFind b c r → Type 0
+FindHeard past b (came.Pending s) r h = Unit {0}
+FindHeard past b (came.Done bytes) r h = AnyHeard past b h
+FindHeard past b (came.Failed e) r h = Unit {0}
+
+-- behind a creation after which the list is asked for
+abbrev pub CreatedHeard : {c : Step Sending (List ℕ)} {r : CheckTurned} (past : Past) (b : ClientBucket) (k : Place) → Creates b k c r → Type 0
+CreatedHeard past b k (check.created bytes is none builds) = HeardCreation past b k
+CreatedHeard past b k (check.there e is code builds) = HeardCreation past b k
+CreatedHeard past b k (check.unread bytes e is fails answer) = Unit {0}
+CreatedHeard past b k (check.other e is code answer) = Unit {0}
+
+abbrev pub CreationHeard : (past : Past) (b : ClientBucket) (k : Place) (c : Step Sending (List ℕ)) (r : CheckTurned) → HearsCreation b k c r → Type 0
+CreationHeard past b k (came.Pending s) r h = Unit {0}
+CreationHeard past b k (came.Done bytes) r h = CreatedHeard past b k h
+CreationHeard past b k (came.Failed e) r h = CreatedHeard past b k h
+
+-- behind the end of a list
+abbrev pub EndHeard : Past → ClientBucket → Place → Bool → Type 0
+EndHeard past b k true = HeardWhole past b k true
+EndHeard past b k false = HeardIndexes past b k false
+
+abbrev pub AdvanceHeard : Past → ClientBucket → Place → Bool → AdvancePoll → Type 0
+AdvanceHeard past b k found advance.Pending = Unit {0}
+AdvanceHeard past b k found (advance.Ready true) = Unit {0}
+AdvanceHeard past b k found (advance.Ready false) = EndHeard past b k found
+AdvanceHeard past b k found (advance.Failed e) = Unit {0}
+
+-- behind the creation of one
+abbrev pub IndexedHeard : {bytes : List ℕ} {r : CheckTurned} (past : Past) (b : ClientBucket) (k : Place) → HearsIndexed b k bytes r → Type 0
+IndexedHeard past b k (check.done none behind) = HeardWhole past b k false
+IndexedHeard past b k (check.unread e fails is) = Unit {0}
+
+abbrev pub IndexHeard : (past : Past) (b : ClientBucket) (k : Place) (c : Step Sending (List ℕ)) (r : CheckTurned) → HearsIndex b k c r → Type 0
+IndexHeard past b k (came.Pending s) r h = Unit {0}
+IndexHeard past b k (came.Done bytes) r h = IndexedHeard past b k h
+IndexHeard past b k (came.Failed e) r h = Unit {0}
+
+-- what its step heard
+abbrev pub StepHeard : {old new : Awaited} {log log' : LogTold} {wire : ℤ} {c : ClientCheck} (past : Past) (b : ClientBucket) (r : CheckTurned) → ChecksOn old new log log' wire b c r → Type 0
+StepHeard past b r (by_find s is x runs hears) = FindHeard past b x r hears
+StepHeard past b r (by_creation k s is x runs hears) = CreationHeard past b k x r hears
+StepHeard past b r (by_listing k s is x runs hears) = Unit {0}
+StepHeard past b r (by_advance k cursor found count is empties starts left poll seeks hears) = AdvanceHeard past b k found poll
+StepHeard past b r (by_index k s is x runs hears) = IndexHeard past b k x r hears
+
+module _ (past : Past) (b : ClientBucket) (commands : List Fields) where
+  turn_as : (r q : CheckTurned) → r ≡ q → TurnSent past b commands q → TurnSent past b commands r
+  turn_as r q is h = subst (TurnSent past b commands) (sym is) h
+
+  builds_sent : (again : Bool) (lines : List Line) (then : Sending → ClientCheck) (r : CheckTurned) → ((s : Sending) → s.stage ≡ unsent → CheckSentAt past b commands (then s)) → CheckSends past b commands → Builds again lines then r → TurnSent past b commands r
   builds_sent again lines then r next so_far (check.built s request is) = turn_as r (check.goes (then s)) is (next s request.new)
   builds_sent again lines then r next so_far (check.not_built e fails is) = turn_as r (check.fails e) is so_far
 
   -- the part of a collection begins
-  part_begins : (k : Place) → SendsBefore b k commands → (s : Sending) → s.stage ≡ unsent → SendsBehind b k (SendsCreation b k (count_at false s.stage)) commands
+  part_begins : (k : Place) → SendsBefore past b k commands → (s : Sending) → s.stage ≡ unsent → SendsBehind past b k (SendsCreation b k (count_at false s.stage)) commands
   part_begins k before s new = record { front = commands; part = []; parts = sym (append-nil commands); before = before; its = ap (λ (x : Stage). replicate (count_at false x) (creation b k)) (sym new) }
 
-  goes_behind : (k : Place) (r : CheckTurned) → SendsBehind b k (SendsWhole b k) commands → GoesBehind b k r → TurnSent b commands r
-  goes_behind place.Files r h goes = builds_sent false _ (creates place.Chunks) r (part_begins place.Chunks (h.front, h.part, h.parts, h.before, h.its)) (of_whole b place.Files commands h) goes
+  goes_behind : (k : Place) (r : CheckTurned) → SendsBehind past b k (SendsWhole past b k) commands → GoesBehind b k r → TurnSent past b commands r
+  goes_behind place.Files r h goes = builds_sent false _ (creates place.Chunks) r (part_begins place.Chunks (h.front, h.part, h.parts, h.before, h.its)) (of_whole past b place.Files commands h) goes
   goes_behind place.Chunks r h is = turn_as r check.passes is (inr h)
 
   -- ---- the find
 
-  any_sent : (n : ℕ) → 1 ≤ n → n ≤ 2 → commands ≡ replicate n (any_find b) → (bytes : List ℕ) (r : CheckTurned) → HearsAny b bytes r → TurnSent b commands r
-  any_sent n some few so bytes r (check.some said read there is) = turn_as r check.passes is (inl (record { count = n; parts = so; some = some; few = few }))
-  any_sent n some few so bytes r (check.none said read empty builds) =
+  any_sent : (n : ℕ) → 1 ≤ n → n ≤ 2 → commands ≡ replicate n (any_find b) → (bytes : List ℕ) (r : CheckTurned) → (h : HearsAny b bytes r) → AnyHeard past b h → TurnSent past b commands r
+  any_sent n some few so bytes r (check.some said read there is) heard = turn_as r check.passes is (inl (record { count = n; parts = so; some = some; few = few }, heard))
+  any_sent n some few so bytes r (check.none said read empty builds) heard =
       let find : SendsFind b commands = record { count = n; parts = so; some = some; few = few } in
-      builds_sent false _ (creates place.Files) r (part_begins place.Files find) (to_find n few so) builds
-  any_sent n some few so bytes r (check.broke e fails is) = turn_as r (check.fails e) is (to_find n few so)
+      builds_sent false _ (creates place.Files) r (part_begins place.Files (find, heard)) (to_find n few so) builds
+  any_sent n some few so bytes r (check.broke e fails is) heard = turn_as r (check.fails e) is (to_find n few so)
 
-  find_sent : (n : ℕ) → commands ≡ replicate n (any_find b) → (c : Step Sending (List ℕ)) → IsCounted true c n → (r : CheckTurned) → HearsFind b c r → TurnSent b commands r
-  find_sent n so (came.Pending s) counted r h = turn_as r (check.pends (finds s)) h (so ∙ ap (λ (m : ℕ). replicate m (any_find b)) counted)
-  find_sent n so (came.Done bytes) counted r h = any_sent n counted.0 counted.1 so bytes r h
-  find_sent n so (came.Failed e) counted r h = turn_as r (check.fails e) h (to_find n counted.1 so)
+  find_sent : (n : ℕ) → commands ≡ replicate n (any_find b) → (c : Step Sending (List ℕ)) → IsCounted true c n → (r : CheckTurned) → (h : HearsFind b c r) → FindHeard past b c r h → TurnSent past b commands r
+  find_sent n so (came.Pending s) counted r h heard = turn_as r (check.pends (finds s)) h (so ∙ ap (λ (m : ℕ). replicate m (any_find b)) counted)
+  find_sent n so (came.Done bytes) counted r h heard = any_sent n counted.0 counted.1 so bytes r h heard
+  find_sent n so (came.Failed e) counted r h heard = turn_as r (check.fails e) h (to_find n counted.1 so)
 
   module _ (k : Place) where
     -- ---- the creation
@@ -294,9 +355,9 @@ module _ (b : ClientBucket) (commands : List Fields) where
         let one : n ≡ 1 = omega (arith, some, few) in
         so ∙ ap (λ (m : ℕ). replicate m (creation b k)) one ∙ ap (λ (x : Stage). creation b k ∷ replicate (count_at true x) (listing b k)) (sym new)
 
-    creation_goes : (n : ℕ) → 1 ≤ n → n ≤ 1 → SendsBehind b k (SendsCreation b k n) commands → (lines : List Line) (r : CheckTurned) → Builds true lines (lists k) r → TurnSent b commands r
-    creation_goes n some few so lines r builds =
-        builds_sent true lines (lists k) r (λ s new. behind_as b k (SendsCreation b k n) (AsksForList b k (count_at true s.stage)) commands (listing_next n some few s new) so) (of_creation b k n few commands so) builds
+    creation_goes : (n : ℕ) → 1 ≤ n → n ≤ 1 → SendsBehind past b k (SendsCreation b k n) commands → (lines : List Line) (r : CheckTurned) → HeardCreation past b k → Builds true lines (lists k) r → TurnSent past b commands r
+    creation_goes n some few so lines r created builds =
+        builds_sent true lines (lists k) r (λ s new. (created, behind_as past b k (SendsCreation b k n) (AsksForList b k (count_at true s.stage)) commands (listing_next n some few s new) so)) (of_creation past b k n few commands so) builds
 
     -- one that is refused since the collection is there was sent
     refused_sent : (n : ℕ) (c : Step Sending (List ℕ)) (e e' : Error) → (1 ≤ n) ⊎ (e ≡ plain kind.OutOfMemory) → c ≡ came.Failed e → c ≡ came.Failed e' → command_code e'.kind ≡ Some namespace_exists → 1 ≤ n
@@ -307,85 +368,87 @@ module _ (b : ClientBucket) (commands : List Fields) where
         let bad : None ≡ Some namespace_exists = sym none ∙ code in
         absurd cc
 
-    creation_done : (n : ℕ) → 1 ≤ n → n ≤ 1 → SendsBehind b k (SendsCreation b k n) commands → (c : Step Sending (List ℕ)) (r : CheckTurned) → Creates b k c r → TurnSent b commands r
-    creation_done n some few so c r (check.created bytes is none builds) = creation_goes n some few so _ r builds
-    creation_done n some few so c r (check.there e is code builds) = creation_goes n some few so _ r builds
-    creation_done n some few so c r (check.unread bytes e is fails answer) = turn_as r (check.fails e) answer (of_creation b k n few commands so)
-    creation_done n some few so c r (check.other e is code answer) = turn_as r (check.fails e) answer (of_creation b k n few commands so)
+    creation_done : (n : ℕ) → 1 ≤ n → n ≤ 1 → SendsBehind past b k (SendsCreation b k n) commands → (c : Step Sending (List ℕ)) (r : CheckTurned) → (h : Creates b k c r) → CreatedHeard past b k h → TurnSent past b commands r
+    creation_done n some few so c r (check.created bytes is none builds) heard = creation_goes n some few so _ r heard builds
+    creation_done n some few so c r (check.there e is code builds) heard = creation_goes n some few so _ r heard builds
+    creation_done n some few so c r (check.unread bytes e is fails answer) heard = turn_as r (check.fails e) answer (of_creation past b k n few commands so)
+    creation_done n some few so c r (check.other e is code answer) heard = turn_as r (check.fails e) answer (of_creation past b k n few commands so)
 
-    creation_failed : (n : ℕ) (e : Error) → (1 ≤ n) ⊎ (e ≡ plain kind.OutOfMemory) → n ≤ 1 → SendsBehind b k (SendsCreation b k n) commands → (c : Step Sending (List ℕ)) → c ≡ came.Failed e → (r : CheckTurned) → Creates b k c r → TurnSent b commands r
-    creation_failed n e some few so c failed r (check.created bytes is none builds) = (let bad : came.Failed e ≡ came.Done bytes = sym failed ∙ is in absurd cc)
-    creation_failed n e some few so c failed r (check.there e' is code builds) = creation_goes n (refused_sent n c e e' some failed is code) few so _ r builds
-    creation_failed n e some few so c failed r (check.unread bytes e' is fails answer) = turn_as r (check.fails e') answer (of_creation b k n few commands so)
-    creation_failed n e some few so c failed r (check.other e' is code answer) = turn_as r (check.fails e') answer (of_creation b k n few commands so)
+    creation_failed : (n : ℕ) (e : Error) → (1 ≤ n) ⊎ (e ≡ plain kind.OutOfMemory) → n ≤ 1 → SendsBehind past b k (SendsCreation b k n) commands → (c : Step Sending (List ℕ)) → c ≡ came.Failed e → (r : CheckTurned) → (h : Creates b k c r) → CreatedHeard past b k h → TurnSent past b commands r
+    creation_failed n e some few so c failed r (check.created bytes is none builds) heard = (let bad : came.Failed e ≡ came.Done bytes = sym failed ∙ is in absurd cc)
+    creation_failed n e some few so c failed r (check.there e' is code builds) heard = creation_goes n (refused_sent n c e e' some failed is code) few so _ r heard builds
+    creation_failed n e some few so c failed r (check.unread bytes e' is fails answer) heard = turn_as r (check.fails e') answer (of_creation past b k n few commands so)
+    creation_failed n e some few so c failed r (check.other e' is code answer) heard = turn_as r (check.fails e') answer (of_creation past b k n few commands so)
 
-    creation_sent : (n : ℕ) → SendsBehind b k (SendsCreation b k n) commands → (c : Step Sending (List ℕ)) → IsCounted false c n → (r : CheckTurned) → HearsCreation b k c r → TurnSent b commands r
-    creation_sent n so (came.Pending s) counted r h = turn_as r (check.pends (creates k s)) h (subst (λ (m : ℕ). SendsBehind b k (SendsCreation b k m) commands) counted so)
-    creation_sent n so (came.Done bytes) counted r h = creation_done n counted.0 counted.1 so (came.Done bytes) r h
-    creation_sent n so (came.Failed e) counted r h = creation_failed n e counted.0 counted.1 so (came.Failed e) refl r h
+    creation_sent : (n : ℕ) → SendsBehind past b k (SendsCreation b k n) commands → (c : Step Sending (List ℕ)) → IsCounted false c n → (r : CheckTurned) → (h : HearsCreation b k c r) → CreationHeard past b k c r h → TurnSent past b commands r
+    creation_sent n so (came.Pending s) counted r h heard = turn_as r (check.pends (creates k s)) h (subst (λ (m : ℕ). SendsBehind past b k (SendsCreation b k m) commands) counted so)
+    creation_sent n so (came.Done bytes) counted r h heard = creation_done n counted.0 counted.1 so (came.Done bytes) r h heard
+    creation_sent n so (came.Failed e) counted r h heard = creation_failed n e counted.0 counted.1 so (came.Failed e) refl r h heard
 
     -- ---- the list
 
     list_begins : (n : ℕ) → 1 ≤ n → n ≤ 2 → (part : List Fields) → AsksForList b k n part → SendsList b k part
     list_begins n some few part so = record { asked = n; mores = []; parts = so ∙ ap (λ (l : List Fields). creation b k ∷ l) (sym (append-nil (replicate n (listing b k)))); some = some; few = few; read_on = tt }
 
-    list_sent : (n : ℕ) → 1 ≤ n → n ≤ 2 → SendsBehind b k (AsksForList b k n) commands → (bytes : List ℕ) (r : CheckTurned) → HearsList k bytes r → TurnSent b commands r
-    list_sent n some few so bytes r (check.opened out opens is) =
-        turn_as r (check.goes (reads k (new_documents (new_client out)) false 0)) is (behind_as b k (AsksForList b k n) (SendsList b k) commands (list_begins n some few) so)
-    list_sent n some few so bytes r (check.broke e fails is) = turn_as r (check.fails e) is (of_listing b k n few commands so)
+    list_sent : HeardCreation past b k → (n : ℕ) → 1 ≤ n → n ≤ 2 → SendsBehind past b k (AsksForList b k n) commands → (bytes : List ℕ) (r : CheckTurned) → HearsList k bytes r → TurnSent past b commands r
+    list_sent created n some few so bytes r (check.opened out opens is) =
+        turn_as r (check.goes (reads k (new_documents (new_client out)) false 0)) is (created, behind_as past b k (AsksForList b k n) (SendsList b k) commands (list_begins n some few) so)
+    list_sent created n some few so bytes r (check.broke e fails is) = turn_as r (check.fails e) is (of_listing past b k created n few commands so)
 
-    listing_sent : (n : ℕ) → SendsBehind b k (AsksForList b k n) commands → (c : Step Sending (List ℕ)) → IsCounted true c n → (r : CheckTurned) → HearsListing k c r → TurnSent b commands r
-    listing_sent n so (came.Pending s) counted r h = turn_as r (check.pends (lists k s)) h (subst (λ (m : ℕ). SendsBehind b k (AsksForList b k m) commands) counted so)
-    listing_sent n so (came.Done bytes) counted r h = list_sent n counted.0 counted.1 so bytes r h
-    listing_sent n so (came.Failed e) counted r h = turn_as r (check.fails e) h (of_listing b k n counted.1 commands so)
+    listing_sent : HeardCreation past b k → (n : ℕ) → SendsBehind past b k (AsksForList b k n) commands → (c : Step Sending (List ℕ)) → IsCounted true c n → (r : CheckTurned) → HearsListing k c r → TurnSent past b commands r
+    listing_sent created n so (came.Pending s) counted r h = turn_as r (check.pends (lists k s)) h (created, subst (λ (m : ℕ). SendsBehind past b k (AsksForList b k m) commands) counted so)
+    listing_sent created n so (came.Done bytes) counted r h = list_sent created n counted.0 counted.1 so bytes r h
+    listing_sent created n so (came.Failed e) counted r h = turn_as r (check.fails e) h (of_listing past b k created n counted.1 commands so)
 
-    module _ (so : SendsBehind b k (SendsList b k) commands) where
-      look_sent : (cursor : DocumentCursor) (document : List ℕ) (found : Bool) (count : ℕ) (r : CheckTurned) → Looks k cursor document found count r → TurnSent b commands r
-      look_sent cursor document found count r (check.looked i few read is) = turn_as r _ is so
-      look_sent cursor document found count r (check.too_many many is) = turn_as r _ is (of_list b k commands so)
-      look_sent cursor document found count r (check.broke e fails is) = turn_as r (check.fails e) is (of_list b k commands so)
+    module _ (created : HeardCreation past b k) (so : SendsBehind past b k (SendsList b k) commands) where
+      look_sent : (cursor : DocumentCursor) (document : List ℕ) (found : Bool) (count : ℕ) (r : CheckTurned) → Looks k cursor document found count r → TurnSent past b commands r
+      look_sent cursor document found count r (check.looked i few read is) = turn_as r _ is (created, so)
+      look_sent cursor document found count r (check.too_many many is) = turn_as r _ is (of_list past b k created commands so)
+      look_sent cursor document found count r (check.broke e fails is) = turn_as r (check.fails e) is (of_list past b k created commands so)
 
-      index_next : (s : Sending) → s.stage ≡ unsent → SendsBehind b k (SendsIndex b k (count_at false s.stage)) commands
+      index_next : (s : Sending) → s.stage ≡ unsent → SendsBehind past b k (SendsIndex b k (count_at false s.stage)) commands
       index_next s new =
-          behind_as b k (SendsList b k) (SendsIndex b k (count_at false s.stage)) commands
+          behind_as past b k (SendsList b k) (SendsIndex b k (count_at false s.stage)) commands
           (λ part its. record { list = part; parts = sym (append-nil part) ∙ ap (λ (x : Stage). part ++ replicate (count_at false x) (index_creation b k)) (sym new); listed = its }) so
 
-      listed_sent : (found : Bool) (r : CheckTurned) → EndsList b k found r → TurnSent b commands r
-      listed_sent true r h = goes_behind k r (behind_as b k (SendsList b k) (SendsWhole b k) commands (list_whole b k) so) h
-      listed_sent false r h = builds_sent false _ (indexes k) r index_next (of_list b k commands so) h
+      listed_sent : (found : Bool) (r : CheckTurned) → EndsList b k found r → EndHeard past b k found → TurnSent past b commands r
+      listed_sent true r h heard = goes_behind k r (behind_as past b k (SendsList b k) (SendsWhole past b k) commands (list_whole past b k heard) so) h
+      listed_sent false r h heard = builds_sent false _ (indexes k) r (λ s new. (created, heard, index_next s new)) (of_list past b k created commands so) h
 
-      advanced_sent : (cursor : DocumentCursor) (found : Bool) (count : ℕ) (poll : AdvancePoll) (r : CheckTurned) → HearsAdvance b k cursor found count poll r → TurnSent b commands r
-      advanced_sent cursor found count advance.Pending r h = turn_as r (check.pends (reads k cursor found count)) h so
-      advanced_sent cursor found count (advance.Ready true) r h = look_sent cursor h.0 found count r h.2
-      advanced_sent cursor found count (advance.Ready false) r h = listed_sent found r h
-      advanced_sent cursor found count (advance.Failed e) r h = turn_as r (check.fails e) h (of_list b k commands so)
+      advanced_sent : (cursor : DocumentCursor) (found : Bool) (count : ℕ) (poll : AdvancePoll) (r : CheckTurned) → HearsAdvance b k cursor found count poll r → AdvanceHeard past b k found poll → TurnSent past b commands r
+      advanced_sent cursor found count advance.Pending r h heard = turn_as r (check.pends (reads k cursor found count)) h (created, so)
+      advanced_sent cursor found count (advance.Ready true) r h heard = look_sent cursor h.0 found count r h.2
+      advanced_sent cursor found count (advance.Ready false) r h heard = listed_sent found r h heard
+      advanced_sent cursor found count (advance.Failed e) r h heard = turn_as r (check.fails e) h (of_list past b k created commands so)
 
     -- ---- the index
 
-    indexed_sent : (n : ℕ) → n ≤ 1 → SendsBehind b k (SendsIndex b k n) commands → (bytes : List ℕ) (r : CheckTurned) → HearsIndexed b k bytes r → TurnSent b commands r
-    indexed_sent n few so bytes r (check.done none behind) = goes_behind k r (behind_as b k (SendsIndex b k n) (SendsWhole b k) commands (λ part its. record { count = n; once = few; ends = its }) so) behind
-    indexed_sent n few so bytes r (check.unread e fails is) = turn_as r (check.fails e) is (of_index b k n few commands so)
+    indexed_sent : HeardCreation past b k → HeardIndexes past b k false → (n : ℕ) → 1 ≤ n → n ≤ 1 → SendsBehind past b k (SendsIndex b k n) commands → (bytes : List ℕ) (r : CheckTurned) → (h : HearsIndexed b k bytes r) → IndexedHeard past b k h → TurnSent past b commands r
+    indexed_sent created listed n some few so bytes r (check.done none behind) heard =
+        let one : n ≡ 1 = omega (arith, some, few) in
+        goes_behind k r (behind_as past b k (SendsIndex b k n) (SendsWhole past b k) commands (λ part its. record { found = false; ends = subst (λ (m : ℕ). SendsIndex b k m part) one its; heard = heard }) so) behind
+    indexed_sent created listed n some few so bytes r (check.unread e fails is) heard = turn_as r (check.fails e) is (of_index past b k created listed n few commands so)
 
-    index_sent : (n : ℕ) → SendsBehind b k (SendsIndex b k n) commands → (c : Step Sending (List ℕ)) → IsCounted false c n → (r : CheckTurned) → HearsIndex b k c r → TurnSent b commands r
-    index_sent n so (came.Pending s) counted r h = turn_as r (check.pends (indexes k s)) h (subst (λ (m : ℕ). SendsBehind b k (SendsIndex b k m) commands) counted so)
-    index_sent n so (came.Done bytes) counted r h = indexed_sent n counted.1 so bytes r h
-    index_sent n so (came.Failed e) counted r h = turn_as r (check.fails e) h (of_index b k n counted.1 commands so)
+    index_sent : HeardCreation past b k → HeardIndexes past b k false → (n : ℕ) → SendsBehind past b k (SendsIndex b k n) commands → (c : Step Sending (List ℕ)) → IsCounted false c n → (r : CheckTurned) → (h : HearsIndex b k c r) → IndexHeard past b k c r h → TurnSent past b commands r
+    index_sent created listed n so (came.Pending s) counted r h heard = turn_as r (check.pends (indexes k s)) h (created, listed, subst (λ (m : ℕ). SendsBehind past b k (SendsIndex b k m) commands) counted so)
+    index_sent created listed n so (came.Done bytes) counted r h heard = indexed_sent created listed n counted.0 counted.1 so bytes r h heard
+    index_sent created listed n so (came.Failed e) counted r h heard = turn_as r (check.fails e) h (of_index past b k created listed n counted.1 commands so)
 
 -- ---- a step
 
-module _ (b : ClientBucket) (k : Place) (commands : List Fields) where
-  creation_more : (n more : ℕ) → SendsBehind b k (SendsCreation b k n) commands → SendsBehind b k (SendsCreation b k (n + more)) (commands ++ replicate more (creation b k))
-  creation_more n more so = behind_on b k (SendsCreation b k n) (SendsCreation b k (n + more)) commands (replicate more (creation b k)) (λ part is. times_more part n more (creation b k) is) so
+module _ (past : Past) (b : ClientBucket) (k : Place) (commands : List Fields) where
+  creation_more : (n more : ℕ) → SendsBehind past b k (SendsCreation b k n) commands → SendsBehind past b k (SendsCreation b k (n + more)) (commands ++ replicate more (creation b k))
+  creation_more n more so = behind_on past b k (SendsCreation b k n) (SendsCreation b k (n + more)) commands (replicate more (creation b k)) (λ part is. times_more part n more (creation b k) is) so
 
-  listing_more : (n more : ℕ) → SendsBehind b k (AsksForList b k n) commands → SendsBehind b k (AsksForList b k (n + more)) (commands ++ replicate more (listing b k))
+  listing_more : (n more : ℕ) → SendsBehind past b k (AsksForList b k n) commands → SendsBehind past b k (AsksForList b k (n + more)) (commands ++ replicate more (listing b k))
   listing_more n more so =
       let C : Fields = creation b k in
       let L : Fields = listing b k in
-      behind_on b k (AsksForList b k n) (AsksForList b k (n + more)) commands (replicate more L)
+      behind_on past b k (AsksForList b k n) (AsksForList b k (n + more)) commands (replicate more L)
       (λ part is. ap (λ (l : List Fields). l ++ replicate more L) is ∙ ap (λ (l : List Fields). C ∷ l) (replicate-append-replicate n more L)) so
 
-  list_more : (more : List Fields) → AreGetMores more → SendsBehind b k (SendsList b k) commands → SendsBehind b k (SendsList b k) (commands ++ more)
-  list_more more mores so = behind_on b k (SendsList b k) (SendsList b k) commands more (λ part its. record {
+  list_more : (more : List Fields) → AreGetMores more → SendsBehind past b k (SendsList b k) commands → SendsBehind past b k (SendsList b k) (commands ++ more)
+  list_more more mores so = behind_on past b k (SendsList b k) (SendsList b k) commands more (λ part its. record {
     asked = its.asked;
     mores = its.mores ++ more;
     parts = ap (λ (l : List Fields). l ++ more) its.parts ∙ ap (λ (l : List Fields). creation b k ∷ l) (append_assoc (replicate its.asked (listing b k)) its.mores more);
@@ -394,47 +457,50 @@ module _ (b : ClientBucket) (k : Place) (commands : List Fields) where
     read_on = mores_on its.mores more its.read_on mores;
   }) so
 
-  index_more : (n more : ℕ) → SendsBehind b k (SendsIndex b k n) commands → SendsBehind b k (SendsIndex b k (n + more)) (commands ++ replicate more (index_creation b k))
+  index_more : (n more : ℕ) → SendsBehind past b k (SendsIndex b k n) commands → SendsBehind past b k (SendsIndex b k (n + more)) (commands ++ replicate more (index_creation b k))
   index_more n more so =
       let I : Fields = index_creation b k in
-      behind_on b k (SendsIndex b k n) (SendsIndex b k (n + more)) commands (replicate more I) (λ part its. record {
+      behind_on past b k (SendsIndex b k n) (SendsIndex b k (n + more)) commands (replicate more I) (λ part its. record {
         list = its.list;
         parts = ap (λ (l : List Fields). l ++ replicate more I) its.parts ∙ append_assoc its.list (replicate n I) (replicate more I) ∙ ap (λ (l : List Fields). its.list ++ l) (replicate-append-replicate n more I);
         listed = its.listed;
       }) so
 
-module _ (b : ClientBucket) (old new : Awaited) (log log' : LogTold) (wire : ℤ) (commands : List Fields) where
+module _ (past : Past) (b : ClientBucket) (old new : Awaited) (log log' : LogTold) (wire : ℤ) (commands : List Fields) where
   -- a step of it adds some commands, and behind these it is as it should be
   abbrev pub CheckAdds : CheckTurned → Type 0
-  CheckAdds r = (more : List Fields) × AddsJust log log' more × TurnSent b (commands ++ more) r
+  CheckAdds r = (more : List Fields) × AddsJust log log' more × TurnSent past b (commands ++ more) r
 
   -- A step of the check sends its next commands alone.
-  pub check_adds : (c : ClientCheck) (r : CheckTurned) → IsSoundCheck b c → CheckFlies c → CheckSentAt b commands c → ChecksOn old new log log' wire b c r → CheckAdds r
-  check_adds c r sound flies sent (by_find s is x runs hears) =
+  pub check_adds : (c : ClientCheck) (r : CheckTurned) → IsSoundCheck b c → CheckFlies c → CheckSentAt past b commands c → (o : ChecksOn old new log log' wire b c r) → StepHeard past b r o → CheckAdds r
+  check_adds c r sound flies sent (by_find s is x runs hears) heard =
       let request = subst (IsSoundCheck b) is sound in
       let n = count_at true s.stage in
       let a = runs_count true (any_find b) old new log log' wire s request.retries_is request.command_is x runs in
       let more = replicate a.0 (any_find b) in
-      (more, a.1, find_sent b (commands ++ more) (n + a.0) (times_more commands n a.0 (any_find b) (subst (CheckSentAt b commands) is sent)) x a.2 r hears)
-  check_adds c r sound flies sent (by_creation k s is x runs hears) =
+      (more, a.1, find_sent past b (commands ++ more) (n + a.0) (times_more commands n a.0 (any_find b) (subst (CheckSentAt past b commands) is sent)) x a.2 r hears heard)
+  check_adds c r sound flies sent (by_creation k s is x runs hears) heard =
       let request = subst (IsSoundCheck b) is sound in
       let n = count_at false s.stage in
       let a = runs_count false (creation b k) old new log log' wire s request.retries_is request.command_is x runs in
       let more = replicate a.0 (creation b k) in
-      (more, a.1, creation_sent b (commands ++ more) k (n + a.0) (creation_more b k commands n a.0 (subst (CheckSentAt b commands) is sent)) x a.2 r hears)
-  check_adds c r sound flies sent (by_listing k s is x runs hears) =
+      (more, a.1, creation_sent past b (commands ++ more) k (n + a.0) (creation_more past b k commands n a.0 (subst (CheckSentAt past b commands) is sent)) x a.2 r hears heard)
+  check_adds c r sound flies sent (by_listing k s is x runs hears) heard =
+      let before = subst (CheckSentAt past b commands) is sent in
       let request = subst (IsSoundCheck b) is sound in
       let n = count_at true s.stage in
       let a = runs_count true (listing b k) old new log log' wire s request.retries_is request.command_is x runs in
       let more = replicate a.0 (listing b k) in
-      (more, a.1, listing_sent b (commands ++ more) k (n + a.0) (listing_more b k commands n a.0 (subst (CheckSentAt b commands) is sent)) x a.2 r hears)
-  check_adds c r sound flies sent (by_advance k cursor found count is empties starts left poll seeks hears) =
+      (more, a.1, listing_sent past b (commands ++ more) k before.0 (n + a.0) (listing_more past b k commands n a.0 before.1) x a.2 r hears)
+  check_adds c r sound flies sent (by_advance k cursor found count is empties starts left poll seeks hears) heard =
+      let before = subst (CheckSentAt past b commands) is sent in
       let o = seeks_send empties old new log log' wire starts cursor left poll (subst (IsSoundCheck b) is sound).0 (subst CheckFlies is flies) seeks in
       let a = mores_told log log' o.0 in
-      (a.0, a.1, advanced_sent b (commands ++ a.0) k (list_more b k commands a.0 a.2 (subst (CheckSentAt b commands) is sent)) left found count poll r hears)
-  check_adds c r sound flies sent (by_index k s is x runs hears) =
+      (a.0, a.1, advanced_sent past b (commands ++ a.0) k before.0 (list_more past b k commands a.0 a.2 before.1) left found count poll r hears heard)
+  check_adds c r sound flies sent (by_index k s is x runs hears) heard =
+      let before = subst (CheckSentAt past b commands) is sent in
       let request = subst (IsSoundCheck b) is sound in
       let n = count_at false s.stage in
       let a = runs_count false (index_creation b k) old new log log' wire s request.retries_is request.command_is x runs in
       let more = replicate a.0 (index_creation b k) in
-      (more, a.1, index_sent b (commands ++ more) k (n + a.0) (index_more b k commands n a.0 (subst (CheckSentAt b commands) is sent)) x a.2 r hears)
+      (more, a.1, index_sent past b (commands ++ more) k before.0 before.1 (n + a.0) (index_more past b k commands n a.0 before.2) x a.2 r hears heard)

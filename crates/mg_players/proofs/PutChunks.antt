@@ -1,6 +1,6 @@
 -- The chunks of a put's file that an insert holds, and their documents.
-use Rattle.std.proofs.Common.{◌≡◌, ◌≢◌, ◌<◌, ◌≤◌, ◌+◌, ◌*◌, ℕ, List, [], ◌∷◌, ◌++◌, length, refl, sym, ap, ◌∙◌, subst, arith, add-mul, append-nil, append_assoc, length-append}
-use Rattle.mg_bson.specs.Tree.{Fields}
+use Rattle.std.proofs.Common.{◌≡◌, ◌≢◌, ◌<◌, ◌≤◌, ◌+◌, ◌*◌, ◌^◌, ℕ, suc, List, [], ◌∷◌, ◌++◌, length, refl, sym, ap, ◌∙◌, subst, arith, add-mul, append-nil, append_assoc, length-append}
+use Rattle.mg_bson.specs.Tree.{Fields, Tree}
 use Rattle.mg_link.specs.Files.{chunked, last_chunk}
 use Rattle.mg_link.proofs.Chunking.{chunked-append, chunked_short, length-chunked}
 use Rattle.mg_options.specs.Fields.{fields_in}
@@ -13,10 +13,15 @@ some_last : (bs : List ℕ) → bs ≢ [] → last_chunk bs ≡ bs ∷ []
 some_last [] some = absurd (some refl)
 some_last (b ∷ bs) some = refl
 
+-- each chunk is one document
+pub chunk_count : (ids : ℕ → List ℕ) (k : ℕ) (file : Tree) (n : ℕ) (chunks : List (List ℕ)) → length (chunk_documents ids k file n chunks) ≡ length chunks
+chunk_count ids k file n [] = refl
+chunk_count ids k file n (chunk ∷ chunks) = ap suc (chunk_count ids (suc k) file (suc n) chunks)
+
 module _ (supply : Supply) (t : PutTask) (room : 0 < t.chunk) (from : ℕ) (front : List ℕ) (even : length front ≡ from * t.chunk) where
   -- full chunks that come next
-  pub full_inserts : (count : ℕ) (these rest : List ℕ) → 0 < count → joined t.pieces ≡ front ++ these ++ rest → length these ≡ count * t.chunk → (ids : ℕ → List ℕ) → ComeNext supply t ids from → (command : Fields) → command ≡ fields_in (chunks_lines (put_bucket t) (chunk_documents ids 0 t.id from (chunked t.chunk these))) → InsertsChunks supply t from (from + count) command
-  full_inserts count these rest some parts full ids come command is =
+  pub full_inserts : (count : ℕ) (these rest : List ℕ) → 0 < count → from + count ≤ 2 ^ 31 → joined t.pieces ≡ front ++ these ++ rest → length these ≡ count * t.chunk → (ids : ℕ → List ℕ) → ComeNext supply t ids from → (command : Fields) → command ≡ fields_in (chunks_lines (put_bucket t) (chunk_documents ids 0 t.id from (chunked t.chunk these))) → InsertsChunks supply t from (from + count) command
+  full_inserts count these rest some small parts full ids come command is =
       let F : List (List ℕ) = chunked t.chunk front in
       let P : List (List ℕ) = chunked t.chunk these in
       let R : List (List ℕ) = chunked t.chunk rest in
@@ -30,6 +35,7 @@ module _ (supply : Supply) (t : PutTask) (room : 0 < t.chunk) (from : ℕ) (fron
         behind = length-chunked from t.chunk front room even;
         some = subst (λ (n : ℕ). 0 < n) (sym many) some;
         next = ap (λ (n : ℕ). from + n) many;
+        small = small;
         ids = ids;
         drawn = come;
         command_is = is;
@@ -56,20 +62,28 @@ module _ (supply : Supply) (t : PutTask) (room : 0 < t.chunk) (from : ℕ) (fron
         these = is;
       }
 
-  -- what is left behind them, as the last one
-  pub last_inserts : (left : List ℕ) → joined t.pieces ≡ front ++ left → left ≢ [] → length left < t.chunk → (ids : ℕ → List ℕ) → ComeNext supply t ids from → (command : Fields) → command ≡ fields_in (chunks_lines (put_bucket t) (chunk_documents ids 0 t.id from (left ∷ []))) → InsertsChunks supply t from (length (file_chunks t)) command
-  last_inserts left parts some short ids come command is =
+  -- what is left behind them is one
+  pub last_count : (left : List ℕ) → joined t.pieces ≡ front ++ left → left ≢ [] → length left < t.chunk → from + 1 ≡ length (file_chunks t)
+  last_count left parts some short =
       let F : List (List ℕ) = chunked t.chunk front in
       let cut : file_chunks t ≡ F ++ left ∷ [] = ap (λ (l : List ℕ). chunked t.chunk l) parts ∙ chunked-append from t.chunk front left room even ∙ ap (λ (l : List (List ℕ)). F ++ l) (chunked_short t.chunk left short ∙ some_last left some) in
-      let before : length F ≡ from = length-chunked from t.chunk front room even in
+      ap (λ (n : ℕ). n + 1) (sym (length-chunked from t.chunk front room even)) ∙ sym (length-append F (left ∷ [])) ∙ ap length (sym cut)
+
+  -- as the last one
+  pub last_inserts : (left : List ℕ) → from + 1 ≤ 2 ^ 31 → joined t.pieces ≡ front ++ left → left ≢ [] → length left < t.chunk → (ids : ℕ → List ℕ) → ComeNext supply t ids from → (command : Fields) → command ≡ fields_in (chunks_lines (put_bucket t) (chunk_documents ids 0 t.id from (left ∷ []))) → InsertsChunks supply t from (length (file_chunks t)) command
+  last_inserts left small parts some short ids come command is =
+      let F : List (List ℕ) = chunked t.chunk front in
+      let cut : file_chunks t ≡ F ++ left ∷ [] = ap (λ (l : List ℕ). chunked t.chunk l) parts ∙ chunked-append from t.chunk front left room even ∙ ap (λ (l : List (List ℕ)). F ++ l) (chunked_short t.chunk left short ∙ some_last left some) in
+      let next : from + 1 ≡ length (file_chunks t) = last_count left parts some short in
       record {
         front = F;
         piece = left ∷ [];
         rest = [];
         parts = cut;
-        behind = before;
+        behind = length-chunked from t.chunk front room even;
         some = omega arith;
-        next = ap (λ (n : ℕ). n + 1) (sym before) ∙ sym (length-append F (left ∷ [])) ∙ ap length (sym cut);
+        next = next;
+        small = subst (λ (n : ℕ). n ≤ 2 ^ 31) next small;
         ids = ids;
         drawn = come;
         command_is = is;

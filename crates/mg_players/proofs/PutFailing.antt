@@ -365,7 +365,7 @@ module _ (t : PutTask) (taken rest : List ℕ) (whole : joined t.pieces ≡ take
           let x_on : ChecksOn old new log log' wire (put_bucket t) c x = subst (λ (b : ClientBucket). ChecksOn old new log log' wire b c x) same on in
           let x_sound : IsSoundCheck (put_bucket t) c = subst (λ (b : ClientBucket). IsSoundCheck b c) same (subst (IsSoundPhase u) is sound).0 in
           let g = check_reads old new log log' wire (put_bucket t) calls told places since room c x x_sound x_on (under_at p (uploads.checks c) is under) (its_at p (uploads.checks c) is its).1 in
-          (g.0, g.1, g.2, check_well t old new log log' wire u u' p r (past_of places since g.0 wire) (λ e h. subst (λ (y : Phase). FailsAt y (past_of places since g.0 wire) t e) (sym is) h) x g.3 leads)
+          (g.0, g.1, g.2, check_well t old new log log' wire u u' p r (past_of places since g.0 wire) (λ e h. subst (λ (y : Phase). FailsAt y (past_of places since g.0 wire) t e) (sym is) h) x g.3.0 leads)
       by_step (is_short is q n short same answer) = quietly p q (well_as t old new log log' wire u u' p r Before done answer tt)
       by_step (fills_next is q full fills_so) = quietly p q (fills_well t old new log log' wire u u' p r Before ids drawn (fills_cause t taken rest whole u aim bounds ids twelve full (cut_at p uploads.fills is cut)) fills_so)
       by_step (inserts_on s count is n c runs hears) = anyhow (λ past. chunks_well t old new log log' wire u u' p r past s count c runs hears)

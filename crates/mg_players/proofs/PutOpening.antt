@@ -4,7 +4,7 @@ use Rattle.mg_link.specs.Acts.{Tickets}
 use Rattle.mg_link.specs.Calls.{past_of}
 use Rattle.mg_link.specs.Link.{Awaited, LogTold}
 use Rattle.mg_link.specs.Log.{Call}
-use Rattle.mg_link.specs.Owner.{Owner, Passes, nobody}
+use Rattle.mg_link.specs.Owner.{IsOf, Owner, Passes, nobody}
 use Rattle.mg_link.specs.declared.error.Error.{Error}
 use Rattle.mg_link.proofs.Adding.{adds_none}
 use Rattle.mg_link.proofs.Apart.{holds_nobody, passes_same}
@@ -49,7 +49,7 @@ nowhere q nothing = only_now q nothing.0 nothing.1 ∙ nothing.2
 
 -- and no commands
 said_none : (calls : List Call) (q : Places) (P : List Fields → Type 0) → SentNothing q → P [] → PutSaid calls q P
-said_none calls q P nothing h = record { within = subst (AreInLog (length calls)) (sym (nowhere q nothing)) tt; sends = subst (λ (l : List ℕ). P (commands_at calls l)) (sym (nowhere q nothing)) h }
+said_none calls q P nothing h = record { within = subst (AreInLog (length calls)) (sym (nowhere q nothing)) tt; ordered = λ k m of now. absurd (subst (λ (l : List ℕ). IsOf l m) nothing.2 now); sends = subst (λ (l : List ℕ). P (commands_at calls l)) (sym (nowhere q nothing)) h }
 
 -- an upload that has taken nothing tells of no places
 module _ (supply : Supply) (t : PutTask) (ids : ℕ → List ℕ) (next : ComeNext supply t ids 0) (awaited : Awaited) (calls : List Call) (wire : ℤ) (q : Places) (named : NamesFiles t) (sized : IsSize t.chunk) (nothing : SentNothing q) where
@@ -69,7 +69,7 @@ module _ (supply : Supply) (t : PutTask) (ids : ℕ → List ℕ) (next : ComeNe
     its = tt;
     reads = tt;
     knows = fresh_knows;
-    said = said_none calls q (λ commands. SentChunks supply t commands false 0) nothing (sent_nothing supply t);
+    said = said_none calls q (λ commands. SentChunks supply t (sent_at (all_places q) calls wire) commands false 0) nothing (sent_nothing supply t (sent_at (all_places q) calls wire));
     lays = nothing_lays t calls wire (all_places q) (nowhere q nothing);
   }
 
@@ -87,7 +87,7 @@ opens_tells supply t awaited calls wire q begun done (puts.Goes going) none is n
     (opened_tells supply t (ids_left going.ids) (next_as supply t (ids_left begun.ids) (ids_left going.ids) opens.4 0 is.1) awaited calls wire q opens.0 sized nothing (upload_of going.upload) done none opens.1, opens.3 ∙ is.0)
 opens_tells supply t awaited calls wire q begun done (puts.Ended ended.Unfinished) none is nothing opens = absurd opens
 opens_tells supply t awaited calls wire q begun done (puts.Ended (ended.Gave n)) none is nothing opens = absurd opens
-opens_tells supply t awaited calls wire q begun done (puts.Ended (ended.Failed e)) none is nothing opens = (nothing.0, ap length nothing.1 ∙ sym none, inl (opens, nowhere q nothing), tt, said_none calls q (λ commands. PutEndsSent supply t (sent_at q.now calls wire) commands (ended.Failed e)) nothing (unremoved supply t [] (FailsSo supply t (sent_at q.now calls wire) e) (λ upto moment. put_sends.not_opened refl opens) (none_some supply t [] refl)), inl (nowhere q nothing))
+opens_tells supply t awaited calls wire q begun done (puts.Ended (ended.Failed e)) none is nothing opens = (nothing.0, ap length nothing.1 ∙ sym none, inl (opens, nowhere q nothing), tt, said_none calls q (λ commands. PutEndsSent supply t (sent_at (all_places q) calls wire) (sent_at q.now calls wire) commands (ended.Failed e)) nothing (unremoved supply t (sent_at (all_places q) calls wire) [] (FailsSo supply t (sent_at q.now calls wire) e) (λ upto moment. put_sends.not_opened refl opens) (none_some supply t (sent_at (all_places q) calls wire) [] refl)), inl (nowhere q nothing))
 
 module _ (awaited : Awaited) (log : LogTold) (wire moment : ℤ) (p : PutPlayer) (begun : Result Beginning Error) (none : p.done ≡ 0) where
   abbrev T : PutTask
@@ -152,4 +152,4 @@ pub opening_turns : (awaited : Awaited) (log : LogTold) (wire moment : ℤ) (p :
 opening_turns awaited log wire moment p (Ok begun) s none opens = opened_so awaited log wire moment p (Ok begun) none begun s (λ supply is. is) opens
 opening_turns awaited log wire moment p (Err e) s none opens =
     subst (λ (x : PutStage). PutTurns awaited awaited log log wire moment (record p { stage = puts.Begins (Err e) }) (record p { stage = x })) (sym opens)
-    (failed_so awaited log wire moment p (Err e) none (ended.Failed e) (λ supply calls q nothing is. (nothing.0, ap length nothing.1 ∙ sym none, inl (inl is, nowhere q nothing), tt, said_none calls q (λ commands. PutEndsSent supply (writes p.what) (sent_at q.now calls wire) commands (ended.Failed e)) nothing (unremoved supply (writes p.what) [] (FailsSo supply (writes p.what) (sent_at q.now calls wire) e) (λ upto moment. put_sends.not_opened refl (inl is)) (none_some supply (writes p.what) [] refl)), inl (nowhere q nothing))))
+    (failed_so awaited log wire moment p (Err e) none (ended.Failed e) (λ supply calls q nothing is. (nothing.0, ap length nothing.1 ∙ sym none, inl (inl is, nowhere q nothing), tt, said_none calls q (λ commands. PutEndsSent supply (writes p.what) (sent_at (all_places q) calls wire) (sent_at q.now calls wire) commands (ended.Failed e)) nothing (unremoved supply (writes p.what) (sent_at (all_places q) calls wire) [] (FailsSo supply (writes p.what) (sent_at q.now calls wire) e) (λ upto moment. put_sends.not_opened refl (inl is)) (none_some supply (writes p.what) (sent_at (all_places q) calls wire) [] refl)), inl (nowhere q nothing))))

@@ -1,5 +1,5 @@
 -- What the steps of a put's upload send, and how the bytes that it took are cut behind them.
-use Rattle.std.proofs.Common.{◌≡◌, ◌≢◌, ◌<◌, ◌≤◌, ◌+◌, ◌*◌, ℕ, zero, suc, ℤ, false, true, List, [], ◌∷◌, ◌++◌, length, take, drop, Option, Some, None, refl, sym, ap, ◌∙◌, subst, arith, add-mul, append-nil, append_assoc, length-append}
+use Rattle.std.proofs.Common.{◌≡◌, ◌≢◌, ◌<◌, ◌≤◌, ◌+◌, ◌*◌, ◌^◌, ℕ, zero, suc, ℤ, false, true, List, [], ◌∷◌, ◌++◌, length, take, drop, Option, Some, None, refl, sym, ap, ◌∙◌, subst, arith, add-mul, append-nil, append_assoc, length-append}
 use Rattle.std.specs.Prelude.{option_map}
 use Rattle.std.proofs.lemmas.List.{length-take-le, take-append-drop}
 use Rattle.mg_bson.specs.Raw.{fields}
@@ -26,7 +26,7 @@ use Rattle.mg_players.specs.PutSends.{InsertsChunks, IsCheckCommand, file_chunks
 use Rattle.mg_players.specs.Puts.{ComeNext, CutBy, CutByPhase, IsCutAt, IsMoment, PhaseSupplied, PutTask, Supply, joined, put_aim, put_bucket, total}
 use Rattle.mg_players.specs.Sends as sends
 use Rattle.mg_players.specs.Sends.{FlightFlies, IsPutCommand, PhaseFlies, PutFlies}
-use Rattle.mg_players.proofs.PutChunks.{all_full, full_inserts, last_inserts}
+use Rattle.mg_players.proofs.PutChunks.{all_full, full_inserts, last_count, last_inserts}
 use Rattle.mg_players.proofs.PutSupplied.{step_supplied}
 use Rattle.mg_players.proofs.PutChecking.{AddsTold, LeftFlies, TurnFlies, check_sends, landing_sends, told_as, told_on, told_ran, told_same}
 
@@ -144,19 +144,19 @@ module _ (supply : Supply) (t : PutTask) (taken rest : List ℕ) (whole : joined
   even_front cut = front_is cut ∙ ap (λ (m : ℕ). u.sent * m) size_is
 
   -- the next full chunks
-  pub full_next : (cut : IsCutAt u taken 0) (ids : ℕ → List ℕ) → ComeNext supply t ids u.sent → (count : ℕ) (s : Sending) → IsPortion u (first_chunks u ids count) count → IsNewRequest false (chunks_lines u.aim.bucket (first_chunks u ids count)) s → InsertsChunks supply t u.sent (u.sent + count) (fields s.command)
-  full_next cut ids next count s portion request =
+  pub full_next : (cut : IsCutAt u taken 0) (ids : ℕ → List ℕ) → ComeNext supply t ids u.sent → (count : ℕ) (s : Sending) → IsPortion u (first_chunks u ids count) count → u.sent + count ≤ 2 ^ 31 → IsNewRequest false (chunks_lines u.aim.bucket (first_chunks u ids count)) s → InsertsChunks supply t u.sent (u.sent + count) (fields s.command)
+  full_next cut ids next count s portion small request =
       let n : ℕ = count * u.aim.size in
       let these : List ℕ = take n u.behind in
       let left : List ℕ = drop n u.behind in
-      full_inserts supply t room u.sent cut.front (even_front cut) count these (left ++ rest) portion.some
+      full_inserts supply t room u.sent cut.front (even_front cut) count these (left ++ rest) portion.some small
       (whole ∙ ap (λ (l : List ℕ). l ++ rest) (cut.parts ∙ ap (λ (l : List ℕ). cut.front ++ l) (sym (take-append-drop n u.behind)) ∙ sym (append_assoc cut.front these left)) ∙ append_assoc (cut.front ++ these) left rest)
       (length-take-le n u.behind portion.within ∙ ap (λ (m : ℕ). count * m) size_is) ids next (fields s.command)
       (request.command_is ∙ ap (λ (a : Aim). fields_in (chunks_lines a.bucket (chunk_documents ids 0 a.id u.sent (chunked a.size these)))) aim)
 
   fills_so : (ids : ℕ → List ℕ) (drawn : ℕ) → ComeNext supply t ids u.sent → IsCutAt u taken 0 → Fills ids drawn u u' r → Then
   fills_so ids drawn next cut (steps.built count s portion small n request is answer) =
-      let may : May (fields s.command) = sends.inserts u.sent (u.sent + count) (full_next cut ids next count s portion request) in
+      let may : May (fields s.command) = sends.inserts u.sent (u.sent + count) (full_next cut ids next count s portion small request) in
       then_as (record u { behind = drop (count * u.aim.size) u.behind }) (goes (inserts s count)) is answer (next_chunks cut count portion.within, may)
   fills_so ids drawn next cut (steps.not_built within e left fails is answer) = then_as (record u { behind = left }) (goes (undoes (Some e))) is answer (tt, tt)
 
@@ -174,10 +174,14 @@ module _ (supply : Supply) (t : PutTask) (taken rest : List ℕ) (whole : joined
   cut_whole all cut = whole ∙ ap (λ (l : List ℕ). taken ++ l) all ∙ append-nil taken ∙ cut.parts
 
   -- what is left, as the last chunk
-  pub last_next : rest ≡ [] → IsShort u → (cut : IsCutAt u taken 0) (ids : ℕ → List ℕ) → ComeNext supply t ids u.sent → (s : Sending) → u.behind ≢ [] → IsNewRequest false (chunks_lines u.aim.bucket (chunk_document (ids 0) u.aim.id u.sent u.behind ∷ [])) s → InsertsChunks supply t u.sent (length (file_chunks t)) (fields s.command)
-  last_next all short cut ids next s some request =
-      last_inserts supply t room u.sent cut.front (even_front cut) u.behind (cut_whole all cut) some (subst (λ (m : ℕ). length u.behind < m) size_is short) ids next (fields s.command)
+  pub last_next : rest ≡ [] → IsShort u → (cut : IsCutAt u taken 0) (ids : ℕ → List ℕ) → ComeNext supply t ids u.sent → (s : Sending) → u.behind ≢ [] → u.sent + 1 ≤ 2 ^ 31 → IsNewRequest false (chunks_lines u.aim.bucket (chunk_document (ids 0) u.aim.id u.sent u.behind ∷ [])) s → InsertsChunks supply t u.sent (length (file_chunks t)) (fields s.command)
+  last_next all short cut ids next s some small request =
+      last_inserts supply t room u.sent cut.front (even_front cut) u.behind small (cut_whole all cut) some (subst (λ (m : ℕ). length u.behind < m) size_is short) ids next (fields s.command)
       (request.command_is ∙ ap (λ (a : Aim). fields_in (chunks_lines a.bucket (chunk_documents ids 0 a.id u.sent (u.behind ∷ [])))) aim)
+
+  -- which is one
+  pub last_one : rest ≡ [] → IsShort u → IsCutAt u taken 0 → u.behind ≢ [] → u.sent + 1 ≡ length (file_chunks t)
+  last_one all short cut some = last_count supply t room u.sent cut.front (even_front cut) u.behind (cut_whole all cut) some (subst (λ (m : ℕ). length u.behind < m) size_is short)
 
   -- or none is
   pub none_next : rest ≡ [] → (cut : IsCutAt u taken 0) → u.behind ≡ [] → u.sent ≡ length (file_chunks t)
@@ -196,7 +200,7 @@ module _ (supply : Supply) (t : PutTask) (taken rest : List ℕ) (whole : joined
   rests_so : (ids : ℕ → List ℕ) (drawn : ℕ) (moment : ℤ) → ComeNext supply t ids u.sent → rest ≡ [] → IsShort u → IsCutAt u taken 0 → Rests ids drawn moment u u' r → Then
   rests_so ids drawn moment next all short cut (steps.nothing_left none n is answer) = then_as u (goes (ends (ending_of u moment))) is answer (counted cut, tt)
   rests_so ids drawn moment next all short cut (steps.built some small n s request is answer) =
-      let may : May (fields s.command) = sends.inserts u.sent (length (file_chunks t)) (last_next all short cut ids next s some request) in
+      let may : May (fields s.command) = sends.inserts u.sent (length (file_chunks t)) (last_next all short cut ids next s some small request) in
       then_as (record u { behind = [] }) (goes (lasts s (ending_of u moment))) is answer (counted cut, may)
   rests_so ids drawn moment next all short cut (steps.not_built some most e left fails is answer) = then_as (record u { behind = left }) (goes (undoes (Some e))) is answer (tt, tt)
 

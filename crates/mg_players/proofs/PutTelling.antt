@@ -1,5 +1,6 @@
 -- What a put tells goes on to hold while others call, and its ticket is that of a call of its own.
-use Rattle.std.proofs.Common.{◌≡◌, ◌∷◌, Bool, true, false, ℕ, ℤ, List, [], length, Option, Some, None, sym, subst, inl, inr}
+use Rattle.std.proofs.Common.{◌≡◌, ◌∷◌, ◌++◌, Bool, true, false, ℕ, ℤ, List, [], length, Option, Some, None, sym, subst, inl, inr}
+use Rattle.std.specs.List.{concat}
 use Rattle.mg_link.specs.Calls.{Grows, Keeps, Past, RequestFails, past_of}
 use Rattle.mg_link.specs.Files.{Bucket}
 use Rattle.mg_link.specs.Link.{Awaited}
@@ -27,23 +28,28 @@ use Rattle.mg_gridfs.specs.Storing.{HasCleared, HasStored}
 use Rattle.mg_gridfs.specs.Uploads.{Aim, ClientUpload, Doing, Flight, Phase, begins, busy, by_check, by_command, checks, closed, ends, fills, flight_ticket, fresh_upload, idle, inserts, lands, lasts, phase_ticket, record_of, records, removes, rests, ticket_by, undoes}
 use Rattle.mg_gridfs.specs.UploadView.{upload_of}
 use Rattle.mg_gridfs.proofs.Holding.{same_own, settled_own, uploads_go_on}
-use Rattle.mg_players.specs.Causes.{sent_at}
+use Rattle.mg_players.specs.Causes.{AreInLog, commands_at, sent_at}
 use Rattle.mg_players.specs.Drawing.{PutHadTurn}
+use Rattle.mg_players.specs.InTurn.{newest}
 use Rattle.mg_players.specs.Plays.{Places, all_places}
 use Rattle.mg_players.specs.PutFailures as fails
 use Rattle.mg_players.specs.PutFailures.{AnswersFirst, CheckReads, FailsEarly, FailsFirst, PhaseReads, PutCheckFails, PutFails, PutReads}
 use Rattle.mg_players.specs.PutSends as put_sends
-use Rattle.mg_players.specs.PutSends.{DoingSent, FailsSo, PutEndsSent, StopsSo}
+use Rattle.mg_players.specs.PutSends.{DoingSent, FailsSo, PutEndsSent, StopsSo, file_chunks}
 use Rattle.mg_players.specs.Puts.{PutTask, Supply, joined, put_aim, put_bucket, puts_ticket, taken_in}
 use Rattle.mg_players.specs.Telling.{PutTells}
 use Rattle.mg_players.specs.declared.put.PutStage.{PutStage}
 use Rattle.mg_players.specs.declared.put.PutStage.TheVariants as puts
 use Rattle.mg_players.proofs.PutLaid.{doing_goes_on, end_goes_on}
 use Rattle.mg_players.proofs.PutSaying.{said_kept}
-use Rattle.mg_players.proofs.PutChecked.{list_on, next_on}
+use Rattle.mg_players.proofs.PutChecked.{next_on}
 use Rattle.mg_players.proofs.PutCreated.{asks_grows, behind_grows, creation_grows}
+use Rattle.mg_players.proofs.PutGrowing.{doing_grows, error_grows, put_grows}
+use Rattle.mg_players.proofs.PutHeard.{indexes_grow}
 use Rattle.mg_players.proofs.PutListing.{batch_grows, listed_grows, more_fails_grows, of_list_grows, reads_grows}
-use Rattle.mg_players.proofs.Telling.{grows_later}
+use Rattle.mg_players.proofs.GetAdding.{now_below}
+use Rattle.mg_players.proofs.JustGrown.{SendsNoMore, just_behind, later_behind, later_just, none_grows}
+use Rattle.mg_players.proofs.Telling.{grows_later, in_second}
 use Rattle.mg_script.specs.declared.outcome.Ended.TheVariants as ended
 
 abbrev Same : Awaited → Awaited → Option ℕ → Type 0
@@ -52,20 +58,6 @@ Same old new ticket = (m : ℕ) → ticket ≡ Some m → new m ≡ old m
 -- ---- what is on its way, and why a call failed
 
 module _ (past past' : Past) (grows : Grows past past') where
-  check_fails_on : (b : ClientBucket) (e : Error) → PutCheckFails past b e → PutCheckFails past' b e
-  check_fails_on b e (fails.out_of_memory is) = fails.out_of_memory is
-  check_fails_on b e (fails.not_built lines its cannot) = fails.not_built lines (next_on past past' grows b lines its) cannot
-  check_fails_on b e (fails.by_find failed) = fails.by_find (request_fails_grows past past' grows (fields_in (any_lines b)) true TellsNoCursor e failed)
-  check_fails_on b e (fails.by_creation at failed other) = fails.by_creation at (request_fails_grows past past' grows (fields_in (creation_lines b at)) false ListsFailure e failed) other
-  check_fails_on b e (fails.by_listing at created failed) = fails.by_listing at (creation_grows past past' grows b at created) (behind_grows past past' grows created.place (λ p. RequestFails p (fields_in (listing_lines b at)) true TellsNoCursor e) failed)
-  check_fails_on b e (fails.by_index at failed) = fails.by_index at (request_fails_grows past past' grows (fields_in (index_lines b at)) false ListsFailure e failed)
-  check_fails_on b e (fails.not_asked c l cannot) = fails.not_asked c (of_list_grows past past' grows b c l) cannot
-  check_fails_on b e (fails.by_more c l failed) = fails.by_more c (of_list_grows past past' grows b c l) (more_fails_grows past past' grows b c e failed)
-  check_fails_on b e (fails.broken bytes batch breaks) = fails.broken bytes (batch_grows past past' grows b bytes batch) breaks
-  check_fails_on b e (fails.stays_empty c l many is) = fails.stays_empty c (of_list_grows past past' grows b c l) many is
-  check_fails_on b e (fails.no_index document listed failed) = fails.no_index document (listed_grows past past' grows b document listed) failed
-  check_fails_on b e (fails.too_many c l many is) = fails.too_many c (of_list_grows past past' grows b c l) many is
-
   upload_fails_on : (aim : Aim) (e : Error) → UploadFails past aim e → UploadFails past' aim e
   upload_fails_on aim e (causes.out_of_memory is) = causes.out_of_memory is
   upload_fails_on aim e (causes.chunks_not_built documents portion cannot) = causes.chunks_not_built documents portion cannot
@@ -90,27 +82,12 @@ module _ (past past' : Past) (grows : Grows past past') where
   removed_on aim h =
       record { bytes = h.bytes; heard = heard_grows past past' grows (fields_in (deletion_lines aim.bucket aim.id)) (reply h.bytes) (λ bad. cc) h.heard; success = h.success; n = h.n; wrote_so = h.wrote_so }
 
-  early_on : (t : PutTask) (e : Error) → FailsEarly past t e → FailsEarly past' t e
-  early_on t e (fails.check_fails failed) = fails.check_fails (check_fails_on (put_bucket t) e failed)
-  early_on t e (fails.not_taken is) = fails.not_taken is
-
   pub fails_first_on : (t : PutTask) (original : Error) → FailsFirst past t original → FailsFirst past' t original
   fails_first_on t original first = record { by_upload = upload_fails_on (put_aim t) original first.by_upload; of_put = first.of_put }
 
   answers_on : (t : PutTask) (original e : Error) → AnswersFirst past t original e → AnswersFirst past' t original e
   answers_on t original e (fails.first_error removed is) = fails.first_error (removed_on (put_aim t) removed) is
   answers_on t original e (fails.not_removed d failed both) = fails.not_removed d (removal_fails_on (put_aim t) d failed) both
-
-  pub fails_on : (t : PutTask) (e : Error) → PutFails past t e → PutFails past' t e
-  fails_on t e (fails.early failed) = fails.early (early_on t e failed)
-  fails_on t e (fails.late original first answers) = fails.late original (fails_first_on t original first) (answers_on t original e answers)
-
-  -- why it failed that removed its chunks or did not
-  pub fails_so_on : (supply : Supply) (t : PutTask) (e : Error) (upto : ℕ) (moment : Option ℤ) (removed : Bool) → FailsSo supply t past e upto moment removed → FailsSo supply t past' e upto moment removed
-  fails_so_on supply t e upto moment removed (put_sends.not_opened none cannot) = put_sends.not_opened none cannot
-  fails_so_on supply t e upto moment removed (put_sends.early none (fails.check_fails failed) before) = put_sends.early none (fails.check_fails (check_fails_on (put_bucket t) e failed)) before
-  fails_so_on supply t e upto moment removed (put_sends.early none (fails.not_taken is) before) = put_sends.early none (fails.not_taken is) before
-  fails_so_on supply t e upto moment removed (put_sends.late original first next answers) = put_sends.late original (fails_first_on t original first) next (answers_on t original e answers)
 
   module _ (old new : Awaited) where
     more_on : (c : ClientCursor) (d : cursors.Doing) → Same old new (cursors.ticket_by d) → more.UnderwayBy old past c d → more.UnderwayBy new past' c d
@@ -142,12 +119,52 @@ module _ (past past' : Past) (grows : Grows past past') where
     phase_on aim (undoes error) same h = first_on aim error h
     phase_on aim (removes sending error) same h = (flies_grows past past' grows old new (fields sending.command) sending.stage same h.0, first_on aim error h.1)
 
+    pub uploading_on : (aim : Aim) (d : Doing) → Same old new (ticket_by d) → UnderwayBy old past aim d → UnderwayBy new past' aim d
+    uploading_on aim idle same h = tt
+    uploading_on aim (busy call phase) same h = phase_on aim phase same h
+    uploading_on aim closed same h = tt
+
+-- where it sends nothing more
+module _ (past past' : Past) (still : SendsNoMore past past') where
+  abbrev grows : Grows past past'
+  grows = still.just.grows
+
+  check_fails_on : (b : ClientBucket) (e : Error) → PutCheckFails past b e → PutCheckFails past' b e
+  check_fails_on b e (fails.out_of_memory is) = fails.out_of_memory is
+  check_fails_on b e (fails.not_built lines its cannot) = fails.not_built lines (next_on past past' (just_behind past past' still.just) b lines its) cannot
+  check_fails_on b e (fails.by_find failed) = fails.by_find (request_fails_grows past past' grows (fields_in (any_lines b)) true TellsNoCursor e failed)
+  check_fails_on b e (fails.by_creation at failed other) = fails.by_creation at (request_fails_grows past past' grows (fields_in (creation_lines b at)) false ListsFailure e failed) other
+  check_fails_on b e (fails.by_listing at created failed) = fails.by_listing at (creation_grows past past' grows b at created) (behind_grows past past' grows created.place (λ p. RequestFails p (fields_in (listing_lines b at)) true TellsNoCursor e) failed)
+  check_fails_on b e (fails.by_index at failed) = fails.by_index at (request_fails_grows past past' grows (fields_in (index_lines b at)) false ListsFailure e failed)
+  check_fails_on b e (fails.not_asked c l cannot) = fails.not_asked c (of_list_grows past past' still.just b c l) cannot
+  check_fails_on b e (fails.by_more c l failed) = fails.by_more c (of_list_grows past past' still.just b c l) (more_fails_grows past past' still.just b c e failed)
+  check_fails_on b e (fails.broken bytes batch breaks) = fails.broken bytes (batch_grows past past' still.just b bytes batch) breaks
+  check_fails_on b e (fails.stays_empty c l many last is) = fails.stays_empty c (of_list_grows past past' still.just b c l) many (none_grows past past' still (newest l.place l.replies) last) is
+  check_fails_on b e (fails.no_index document listed failed) = fails.no_index document (listed_grows past past' still.just b document listed) failed
+  check_fails_on b e (fails.too_many c l many is) = fails.too_many c (of_list_grows past past' still.just b c l) many is
+
+  early_on : (t : PutTask) (e : Error) → FailsEarly past t e → FailsEarly past' t e
+  early_on t e (fails.check_fails failed) = fails.check_fails (check_fails_on (put_bucket t) e failed)
+  early_on t e (fails.not_taken is) = fails.not_taken is
+
+  pub fails_on : (t : PutTask) (e : Error) → PutFails past t e → PutFails past' t e
+  fails_on t e (fails.early failed) = fails.early (early_on t e failed)
+  fails_on t e (fails.late original first answers) = fails.late original (fails_first_on past past' grows t original first) (answers_on past past' grows t original e answers)
+
+  -- why it failed that removed its chunks or did not
+  pub fails_so_on : (supply : Supply) (t : PutTask) (e : Error) (upto : ℕ) (moment : Option ℤ) (removed : Bool) → FailsSo supply t past e upto moment removed → FailsSo supply t past' e upto moment removed
+  fails_so_on supply t e upto moment removed (put_sends.not_opened none cannot) = put_sends.not_opened none cannot
+  fails_so_on supply t e upto moment removed (put_sends.early none (fails.check_fails failed) before) = put_sends.early none (fails.check_fails (check_fails_on (put_bucket t) e failed)) before
+  fails_so_on supply t e upto moment removed (put_sends.early none (fails.not_taken is) before) = put_sends.early none (fails.not_taken is) before
+  fails_so_on supply t e upto moment removed (put_sends.late original first next answers) = put_sends.late original (fails_first_on past past' grows t original first) (error_grows past past' grows supply t upto moment original next) (answers_on past past' grows t original e answers)
+
+  module _ (old new : Awaited) where
     check_reads_on : (b : ClientBucket) (c : ClientCheck) → Same old new (check_ticket c) → CheckReads old past b c → CheckReads new past' b c
     check_reads_on b (finds sending) same h = tt
     check_reads_on b (creates at sending) same h = tt
-    check_reads_on b (lists at sending) same h = asks_grows past past' grows old new b at sending same h
-    check_reads_on b (reads at d found count) same h = (list_on past past' grows b at h.0, reads_grows past past' grows b old new d count same h.1)
-    check_reads_on b (indexes at sending) same h = tt
+    check_reads_on b (lists at sending) same h = asks_grows past past' still old new b at sending same h
+    check_reads_on b (reads at d found count) same h = (creation_grows past past' grows b at h.0, h.1, h.2, h.3, reads_grows past past' still b old new d at h.1 same h.4)
+    check_reads_on b (indexes at sending) same h = (creation_grows past past' grows b at h.0, indexes_grow past past' (just_behind past past' still.just) b at false h.1)
 
     phase_reads_on : (b : ClientBucket) (p : Phase) → Same old new (phase_ticket p) → PhaseReads old past b p → PhaseReads new past' b p
     phase_reads_on b begins same h = tt
@@ -166,11 +183,6 @@ module _ (past past' : Past) (grows : Grows past past') where
     reads_on b idle same h = tt
     reads_on b (busy call phase) same h = phase_reads_on b phase same h
     reads_on b closed same h = tt
-
-    pub uploading_on : (aim : Aim) (d : Doing) → Same old new (ticket_by d) → UnderwayBy old past aim d → UnderwayBy new past' aim d
-    uploading_on aim idle same h = tt
-    uploading_on aim (busy call phase) same h = phase_on aim phase same h
-    uploading_on aim closed same h = tt
 
 -- ---- what it stored
 
@@ -206,6 +218,10 @@ cleared_on calls calls' wire places at u e onward h leaves = let k = h leaves in
 
 -- ---- a put
 
+-- what its call that goes on, or ended it, sent is told so by a later log
+now_later : (calls calls' : List Call) (wire : ℤ) (q : Places) → Keeps calls calls' → AreInLog (length calls) (all_places q) → SendsNoMore (sent_at q.now calls wire) (sent_at q.now calls' wire)
+now_later calls calls' wire q keeps within = later_just q.now calls calls' wire keeps (λ place of. now_below calls (all_places q) within place (in_second q.opened (concat q.owns ++ q.now) place (in_second (concat q.owns) q.now place of)))
+
 pub put_later : (supply : Supply) (t : PutTask) (old new : Awaited) (calls calls' : List Call) (wire : ℤ) (q : Places) (done : ℕ) (s : PutStage) → Keeps calls calls' → Onward calls calls' nobody → Same old new (puts_ticket s) → PutTells old calls wire q supply t done s → PutTells new calls' wire q supply t done s
 put_later supply t old new calls calls' wire q done puts.Undrawn keeps onward same told = told
 put_later supply t old new calls calls' wire q done (puts.Begins begun) keeps onward same told = told
@@ -220,30 +236,33 @@ put_later supply t old new calls calls' wire q done (puts.Goes going) keeps onwa
         flies = told.0.flies;
         supplied = told.0.supplied;
         its = told.0.its;
-        reads = reads_on (sent_at q.now calls wire) (sent_at q.now calls' wire) (grows_later q.now calls calls' wire keeps) old new (put_bucket t) u.doing same told.0.reads;
+        reads = reads_on (sent_at q.now calls wire) (sent_at q.now calls' wire) (now_later calls calls' wire q keeps told.0.said.within) old new (put_bucket t) u.doing same told.0.reads;
         underway = uploading_on (sent_at q.now calls wire) (sent_at q.now calls' wire) (grows_later q.now calls calls' wire keeps) old new u.aim u.doing same told.0.underway;
         knows = uploads_go_on old new calls calls' wire (all_places q) t.at u (taken_in u.doing t.pieces done) onward same told.0.knows;
-        said = said_kept calls calls' q (λ commands. DoingSent supply t commands u.checked u.sent u.doing) keeps told.0.said;
+        said = (let s = said_kept calls calls' q (λ commands. DoingSent supply t (sent_at (all_places q) calls wire) (sent_at q.now calls wire) commands u.checked u.sent u.doing) keeps told.0.said in
+            record { within = s.within; ordered = s.ordered; sends = doing_grows (sent_at (all_places q) calls wire) (sent_at (all_places q) calls' wire) (later_behind (all_places q) calls calls' wire keeps) (sent_at q.now calls wire) (sent_at q.now calls' wire) (grows_later q.now calls calls' wire keeps) supply t (commands_at calls' (all_places q)) u.checked u.sent u.doing s.sends });
         lays = doing_goes_on t calls calls' wire (all_places q) told.0.said.within onward u.doing told.0.lays;
       },
       told.1,
     )
 put_later supply t old new calls calls' wire q done (puts.Ended ended.Unfinished) keeps onward same told =
-    let s = said_kept calls calls' q (λ commands. PutEndsSent supply t (sent_at q.now calls wire) commands ended.Unfinished) keeps told.4 in
-    let for_it : StopsSo supply t (sent_at q.now calls' wire) s.sends.1.0 s.sends.1.1 s.sends.0 = λ is. (let why = s.sends.2 is in (why.0, fails_first_on (sent_at q.now calls wire) (sent_at q.now calls' wire) (grows_later q.now calls calls' wire keeps) t why.0 why.1, why.2)) in
-    (told.0, told.1, told.2, told.3, record { within = s.within; sends = (s.sends.0, s.sends.1, for_it) }, end_goes_on t calls calls' wire (all_places q) told.4.within onward told.5)
+    let s = said_kept calls calls' q (λ commands. PutEndsSent supply t (sent_at (all_places q) calls wire) (sent_at q.now calls wire) commands ended.Unfinished) keeps told.4 in
+    let for_it : StopsSo supply t (sent_at q.now calls' wire) s.sends.1.0 s.sends.1.1 s.sends.0 = λ is. (let why = s.sends.2 is in
+    let grows = grows_later q.now calls calls' wire keeps in
+    (why.0, fails_first_on (sent_at q.now calls wire) (sent_at q.now calls' wire) grows t why.0 why.1, error_grows (sent_at q.now calls wire) (sent_at q.now calls' wire) grows supply t s.sends.1.0 s.sends.1.1 why.0 why.2)) in
+    (told.0, told.1, told.2, told.3, record { within = s.within; ordered = s.ordered; sends = (s.sends.0, (s.sends.1.0, s.sends.1.1, put_grows (sent_at (all_places q) calls wire) (sent_at (all_places q) calls' wire) (later_behind (all_places q) calls calls' wire keeps) supply t (commands_at calls' (all_places q)) s.sends.1.0 s.sends.1.1 s.sends.0 s.sends.1.2), for_it) }, end_goes_on t calls calls' wire (all_places q) told.4.within onward told.5)
 put_later supply t old new calls calls' wire q done (puts.Ended (ended.Gave n)) keeps onward same told =
-    (told.0, told.1, (told.2.0, told.2.1, stored_on calls calls' wire (all_places q) t.at (fresh_upload (put_aim t)) (joined t.pieces) onward told.2.2), told.3, said_kept calls calls' q (λ commands. PutEndsSent supply t (sent_at q.now calls wire) commands (ended.Gave n)) keeps told.4, end_goes_on t calls calls' wire (all_places q) told.4.within onward told.5)
+    (told.0, told.1, (told.2.0, told.2.1, stored_on calls calls' wire (all_places q) t.at (fresh_upload (put_aim t)) (joined t.pieces) onward told.2.2), told.3, (let s = said_kept calls calls' q (λ commands. PutEndsSent supply t (sent_at (all_places q) calls wire) (sent_at q.now calls wire) commands (ended.Gave n)) keeps told.4 in record { within = s.within; ordered = s.ordered; sends = (s.sends.0, put_grows (sent_at (all_places q) calls wire) (sent_at (all_places q) calls' wire) (later_behind (all_places q) calls calls' wire keeps) supply t (commands_at calls' (all_places q)) (length (file_chunks t)) (Some s.sends.0) false s.sends.1) }), end_goes_on t calls calls' wire (all_places q) told.4.within onward told.5)
 put_later supply t old new calls calls' wire q done (puts.Ended (ended.Failed e)) keeps onward same told = (
   told.0,
   told.1,
   elim told.2 [
     | inl cannot ↦ inl cannot
-    | inr fails ↦ inr (fails.0, fails_on (sent_at q.now calls wire) (sent_at q.now calls' wire) (grows_later q.now calls calls' wire keeps) t e fails.1, cleared_on calls calls' wire (all_places q) t.at (fresh_upload (put_aim t)) e onward fails.2)
+    | inr fails ↦ inr (fails.0, fails_on (sent_at q.now calls wire) (sent_at q.now calls' wire) (now_later calls calls' wire q keeps told.4.within) t e fails.1, cleared_on calls calls' wire (all_places q) t.at (fresh_upload (put_aim t)) e onward fails.2)
   ],
   told.3,
-  (let s = said_kept calls calls' q (λ commands. PutEndsSent supply t (sent_at q.now calls wire) commands (ended.Failed e)) keeps told.4 in
-      record { within = s.within; sends = (s.sends.0, s.sends.1, fails_so_on (sent_at q.now calls wire) (sent_at q.now calls' wire) (grows_later q.now calls calls' wire keeps) supply t e s.sends.1.0 s.sends.1.1 s.sends.0 s.sends.2) }),
+  (let s = said_kept calls calls' q (λ commands. PutEndsSent supply t (sent_at (all_places q) calls wire) (sent_at q.now calls wire) commands (ended.Failed e)) keeps told.4 in
+      record { within = s.within; ordered = s.ordered; sends = (s.sends.0, (s.sends.1.0, s.sends.1.1, put_grows (sent_at (all_places q) calls wire) (sent_at (all_places q) calls' wire) (later_behind (all_places q) calls calls' wire keeps) supply t (commands_at calls' (all_places q)) s.sends.1.0 s.sends.1.1 s.sends.0 s.sends.1.2), fails_so_on (sent_at q.now calls wire) (sent_at q.now calls' wire) (now_later calls calls' wire q keeps told.4.within) supply t e s.sends.1.0 s.sends.1.1 s.sends.0 s.sends.2) }),
   end_goes_on t calls calls' wire (all_places q) told.4.within onward told.5,
 )
 

@@ -33,11 +33,13 @@ use Rattle.mg_players.specs.PutFailures.{AnswersPut, PutFails, PutReads}
 use Rattle.mg_players.specs.Puts.{CutBy, DoingSupplied, IsMoment, IsPutDoing, NamesFiles, PutTask, Supply, joined, put_aim, put_bucket, taken_in}
 use Rattle.mg_players.specs.Sends.{IsPutCommand}
 use Rattle.mg_players.specs.PutSends.{DoingSent, FailsSo, PutEndsSent}
-use Rattle.mg_players.specs.Telling.{PutSaid, PutTellsOpen}
+use Rattle.mg_players.specs.Telling.{CallsFollow, PutSaid, PutTellsOpen}
+use Rattle.mg_players.proofs.JustGrown.{GrowsBehind, SendsNoMore, ended_behind, ended_just}
 use Rattle.mg_players.proofs.PutOrder.{Reason}
-use Rattle.mg_players.proofs.PutOrdered.{CloseSaid, WriteSaid, close_order, write_order}
-use Rattle.mg_players.proofs.PutSaying.{said_more}
+use Rattle.mg_players.proofs.PutOrdered.{CloseSaid, WriteSaid, close_grows, close_order, write_grows, write_order}
+use Rattle.mg_players.proofs.PutSaying.{going_ordered, now_last, said_more}
 use Rattle.mg_players.proofs.PutFailed.{CloseEnds, WriteEnds, close_ends, write_ends}
+use Rattle.mg_players.proofs.PutGrowing.{as_all_is, doing_grows}
 use Rattle.mg_players.proofs.PutLaid.{CloseLays, WriteLays, close_laid, doing_settles, laid_settles, names_of, write_laid}
 use Rattle.mg_players.proofs.PutPolled.{Ahead, AheadEnd, PollSent, close_sends, close_supplied, taken_on, taken_whole, takes_close, takes_write, write_sends, write_supplied}
 use Rattle.mg_players.proofs.PutSending.{Stands}
@@ -57,6 +59,10 @@ settled places from upto room = record {
 settled_all : (q q' : Places) (from upto : ℕ) → from ≤ upto → all_places q' ≡ sent_since (all_places q) from upto → IsSettled (all_places q) from upto (all_places q')
 settled_all q q' from upto room whole = subst (IsSettled (all_places q) from upto) (sym whole) (settled (all_places q) from upto room)
 
+-- all that was heard by the end of a poll
+all_ended : (q q' : Places) (from : ℕ) (calls : List Call) (wire : ℤ) → from ≤ length calls → all_places q' ≡ sent_since (all_places q) from (length calls) → GrowsBehind (past_of (all_places q) from calls wire) (sent_at (all_places q') calls wire)
+all_ended q q' from calls wire room whole = subst (λ (l : List ℕ). GrowsBehind (past_of (all_places q) from calls wire) (sent_at l calls wire)) (sym whole) (ended_behind (all_places q) from calls wire room)
+
 module _ (t : PutTask) (old new : Awaited) (log log' : LogTold) (wire : ℤ) (u u' : ClientUpload) (calls calls' : List Call) (told' : log' ≡ Some calls') (q : Places) where
   abbrev From : ℕ
   From = length calls
@@ -72,19 +78,38 @@ module _ (t : PutTask) (old new : Awaited) (log log' : LogTold) (wire : ℤ) (u 
   underway_on : IsUploading new (past_of q.now From calls' wire) u' → IsUploading new (sent_at (sent_since q.now From Upto) calls' wire) u'
   underway_on h = uploading_on (past_of q.now From calls' wire) (sent_at (sent_since q.now From Upto) calls' wire) (grows_ended q.now From calls' wire) new new u'.aim u'.doing (λ m held. refl) h
 
+  -- what its call sent counts as sent before
+  now_ended : From ≤ Upto → SendsNoMore (past_of q.now From calls' wire) (sent_at (sent_since q.now From Upto) calls' wire)
+  now_ended room = ended_just q.now From calls' wire room
+
   -- why its call failed
-  fails_behind : (e : Error) → PutFails (past_of q.now From calls' wire) t e → PutFails (sent_at (sent_since q.now From Upto) calls' wire) t e
-  fails_behind e fails = fails_on (past_of q.now From calls' wire) (sent_at (sent_since q.now From Upto) calls' wire) (grows_ended q.now From calls' wire) t e fails
+  fails_behind : From ≤ Upto → (e : Error) → PutFails (past_of q.now From calls' wire) t e → PutFails (sent_at (sent_since q.now From Upto) calls' wire) t e
+  fails_behind room e fails = fails_on (past_of q.now From calls' wire) (sent_at (sent_since q.now From Upto) calls' wire) (now_ended room) t e fails
 
   -- and whether its chunks were removed then
-  so_behind : (supply : Supply) (e : Error) (upto : ℕ) (moment : Option ℤ) (removed : Bool) → Reason q.now From wire log' supply t e upto moment removed → FailsSo supply t (sent_at (sent_since q.now From Upto) calls' wire) e upto moment removed
-  so_behind supply e upto moment removed h =
-      fails_so_on (past_of q.now From calls' wire) (sent_at (sent_since q.now From Upto) calls' wire) (grows_ended q.now From calls' wire) supply t e upto moment removed
+  so_behind : From ≤ Upto → (supply : Supply) (e : Error) (upto : ℕ) (moment : Option ℤ) (removed : Bool) → Reason q.now From wire log' supply t e upto moment removed → FailsSo supply t (sent_at (sent_since q.now From Upto) calls' wire) e upto moment removed
+  so_behind room supply e upto moment removed h =
+      fails_so_on (past_of q.now From calls' wire) (sent_at (sent_since q.now From Upto) calls' wire) (now_ended room) supply t e upto moment removed
       (as_told (λ (l : List Call). FailsSo supply t (past_of q.now From l wire) e upto moment removed) h.0 h.1 h.2)
 
+  -- what it sent
+  said_behind : (supply : Supply) (q' : Places) → PutSaid calls' q' (λ commands. DoingSent supply t (sent_at (all_places q') calls' wire) (past_of q.now From calls' wire) commands u'.checked u'.sent u'.doing) → PutSaid calls' q' (λ commands. DoingSent supply t (sent_at (all_places q') calls' wire) (sent_at (sent_since q.now From Upto) calls' wire) commands u'.checked u'.sent u'.doing)
+  said_behind supply q' s = record {
+    within = s.within;
+    ordered = s.ordered;
+    sends = doing_grows (sent_at (all_places q') calls' wire) (sent_at (all_places q') calls' wire) (as_all_is (sent_at (all_places q') calls' wire)) (past_of q.now From calls' wire) (sent_at (sent_since q.now From Upto) calls' wire) (grows_ended q.now From calls' wire) supply t (commands_at calls' (all_places q')) u'.checked u'.sent u'.doing s.sends;
+  }
+
+  -- where its call is done, that says nothing of the call
+  said_at_rest : (supply : Supply) (q' : Places) → u'.doing ≡ idle → PutSaid calls' q' (λ commands. DoingSent supply t (sent_at (all_places q') calls' wire) (past_of q.now From calls' wire) commands u'.checked u'.sent u'.doing) → PutSaid calls' q' (λ commands. DoingSent supply t (sent_at (all_places q') calls' wire) (sent_at [] calls' wire) commands u'.checked u'.sent u'.doing)
+  said_at_rest supply q' rests_so s =
+      let commands : List Fields = commands_at calls' (all_places q') in
+      let all : Past = sent_at (all_places q') calls' wire in
+      record { within = s.within; ordered = s.ordered; sends = subst (DoingSent supply t all (sent_at [] calls' wire) commands u'.checked u'.sent) (sym rests_so) (subst (DoingSent supply t all (past_of q.now From calls' wire) commands u'.checked u'.sent) rests_so s.sends) }
+
   -- what it knows of the list that it reads
-  reads_behind : PutReads new (past_of q.now From calls' wire) (put_bucket t) u'.doing → PutReads new (sent_at (sent_since q.now From Upto) calls' wire) (put_bucket t) u'.doing
-  reads_behind h = reads_on (past_of q.now From calls' wire) (sent_at (sent_since q.now From Upto) calls' wire) (grows_ended q.now From calls' wire) new new (put_bucket t) u'.doing (λ m held. refl) h
+  reads_behind : From ≤ Upto → PutReads new (past_of q.now From calls' wire) (put_bucket t) u'.doing → PutReads new (sent_at (sent_since q.now From Upto) calls' wire) (put_bucket t) u'.doing
+  reads_behind room h = reads_on (past_of q.now From calls' wire) (sent_at (sent_since q.now From Upto) calls' wire) (now_ended room) new new (put_bucket t) u'.doing (λ m held. refl) h
 
   -- what it knows of the step of its record
   lays_behind : (q' : Places) → From ≤ Upto → all_places q' ≡ sent_since (all_places q) From Upto → DoingLays (past_of (all_places q) From calls' wire) t u'.doing → DoingLays (sent_at (all_places q') calls' wire) t u'.doing
@@ -173,12 +198,20 @@ module _ (supply : Supply) (t : PutTask) (ids later : ℕ → List ℕ) (old new
   abbrev Why : Error → ℕ → Option ℤ → Bool → Type 0
   Why = Reason q.now (length calls) wire log' supply t
 
-  ordered : (more : List Fields) × AddsJust log log' more × WriteSaid supply t Why (commands_at calls (all_places q) ++ more) u' r
-  ordered = write_order supply t old new log log' wire ids polled.drawn polled.twelve u u' between tells.aim_is (commands_at calls (all_places q)) tells.said.sends tells.supplied calls told q.now tells.underway (tells.its, tells.reads) bytes made there within doing tells.cut tells.flies r polled.does
+  ordered : (more : List Fields) × AddsJust log log' more × WriteSaid supply t (past_of (all_places q) (length calls) calls' wire) (past_of q.now (length calls) calls' wire) Why (commands_at calls (all_places q) ++ more) u' r
+  ordered = write_order supply t old new log log' wire ids polled.drawn polled.twelve u u' between tells.aim_is (commands_at calls (all_places q)) tells.supplied calls calls' told told' q.now (all_places q) (now_last calls q tells.said.within tells.said.ordered) tells.said.sends tells.underway (tells.its, tells.reads) bytes made there within doing tells.cut tells.flies r polled.does
 
   -- so it has said behind it, by what it comes to
-  said_so : (q' : Places) → all_places q' ≡ sent_since (all_places q) (length calls) (length calls') → (x : WritePoll) → r ≡ x → PutSaid calls' q' (λ commands. WriteSaid supply t Why commands u' x)
-  said_so q' whole x is = subst (λ (y : WritePoll). PutSaid calls' q' (λ commands. WriteSaid supply t Why commands u' y)) is (said_more log log' calls calls' q q' (λ commands. DoingSent supply t commands u.checked u.sent u.doing) (λ commands. WriteSaid supply t Why commands u' r) told told' write_adds.keeps whole tells.said ordered)
+  said_so : (q' : Places) → all_places q' ≡ sent_since (all_places q) (length calls) (length calls') → CallsFollow q' → (x : WritePoll) → r ≡ x → PutSaid calls' q' (λ commands. WriteSaid supply t (sent_at (all_places q') calls' wire) (past_of q.now (length calls) calls' wire) Why commands u' x)
+  said_so q' whole in_order x is =
+      let now : Past = sent_at (all_places q') calls' wire in
+      let its : Past = past_of q.now (length calls) calls' wire in
+      let on = write_grows (past_of (all_places q) (length calls) calls' wire) now (all_ended q q' (length calls) calls' wire write_room whole) supply t its Why (commands_at calls (all_places q) ++ ordered.0) u' r ordered.2 in
+      subst (λ (y : WritePoll). PutSaid calls' q' (λ commands. WriteSaid supply t now its Why commands u' y)) is
+      (said_more log log' calls calls' q q' (λ commands. DoingSent supply t (sent_at (all_places q) calls wire) (sent_at q.now calls wire) commands u.checked u.sent u.doing) (λ commands. WriteSaid supply t now its Why commands u' r) told told' write_adds.keeps whole in_order tells.said (ordered.0, ordered.1, on))
+
+  still_ordered : CallsFollow (going_on q (length calls) (length calls'))
+  still_ordered = going_ordered calls q tells.said.within tells.said.ordered (length calls') write_room
 
   taken_so : (d : Doing) (made' : ℕ) → taken_in d t.pieces made' ≡ joined (take (made + 1) t.pieces) → taken_by u.doing (taken_in u.doing t.pieces made) bytes ≡ taken_in d t.pieces made'
   taken_so d made' same = taken_on u.doing t.pieces made bytes doing within there ∙ sym same
@@ -205,10 +238,10 @@ module _ (supply : Supply) (t : PutTask) (ids later : ℕ → List ℕ) (old new
         flies = stands.1;
         supplied = subst (λ (x : WritePoll). Ahead x (DoingSupplied supply t later u'.sent u'.doing)) is supplied;
         its = (subst (λ (x : WritePoll). WriteEnds t new u' x (past_of q.now (length calls) calls' wire)) is ends_so).0;
-        reads = reads_behind t old new log log' wire u u' calls calls' told' q (subst (λ (x : WritePoll). WriteEnds t new u' x (past_of q.now (length calls) calls' wire)) is ends_so).1;
+        reads = reads_behind t old new log log' wire u u' calls calls' told' q write_room (subst (λ (x : WritePoll). WriteEnds t new u' x (past_of q.now (length calls) calls' wire)) is ends_so).1;
         knows = knows_behind t old new log log' wire u u' calls calls' told' q (going_on q (length calls) (length calls')) (taken_by u.doing (taken_in u.doing t.pieces made) bytes) (taken_in u'.doing t.pieces made) write_room (whole_going q (length calls) (length calls')) (taken_so u'.doing made taken)
             (subst (AfterWrite new (past_of (all_places q) (length calls) calls' wire) t.at u u' (taken_in u.doing t.pieces made) bytes) is stored);
-        said = said_so (going_on q (length calls) (length calls')) (whole_going q (length calls) (length calls')) wrote.Pending is;
+        said = said_behind t old new log log' wire u u' calls calls' told' q supply (going_on q (length calls) (length calls')) (said_so (going_on q (length calls) (length calls')) (whole_going q (length calls) (length calls')) still_ordered wrote.Pending is);
         lays = lays_behind t old new log log' wire u u' calls calls' told' q (going_on q (length calls) (length calls')) write_room (whole_going q (length calls) (length calls')) (subst (λ (x : WritePoll). WriteLays t u' x (past_of (all_places q) (length calls) calls' wire)) is laid);
       }
 
@@ -232,13 +265,13 @@ module _ (supply : Supply) (t : PutTask) (ids later : ℕ → List ℕ) (old new
         reads = subst (PutReads new (sent_at [] calls' wire) (put_bucket t)) (sym rests_so) tt;
         knows = knows_behind t old new log log' wire u u' calls calls' told' q (answered_by q (length calls) (length calls')) (taken_by u.doing (taken_in u.doing t.pieces made) bytes) (taken_in u'.doing t.pieces (made + 1)) write_room (whole_answered q (length calls) (length calls')) (taken_so u'.doing (made + 1) taken)
             (subst (AfterWrite new (past_of (all_places q) (length calls) calls' wire) t.at u u' (taken_in u.doing t.pieces made) bytes) is stored);
-        said = said_so (answered_by q (length calls) (length calls')) (whole_answered q (length calls) (length calls')) (wrote.Wrote n) is;
+        said = said_at_rest t old new log log' wire u u' calls calls' told' q supply (answered_by q (length calls) (length calls')) rests_so (said_so (answered_by q (length calls) (length calls')) (whole_answered q (length calls) (length calls')) (λ k m before now. absurd now) (wrote.Wrote n) is);
         lays = lays_behind t old new log log' wire u u' calls calls' told' q (answered_by q (length calls) (length calls')) write_room (whole_answered q (length calls) (length calls')) (subst (λ (x : WritePoll). WriteLays t u' x (past_of (all_places q) (length calls) calls' wire)) is laid);
       }
 
   -- it fails
   pub write_fails : (e : Error) → r ≡ wrote.Failed e → PutFails (sent_at (sent_since q.now (length calls) (length calls')) calls' wire) t e
-  write_fails e is = fails_behind t old new log log' wire u u' calls calls' told' q e (subst (λ (x : WritePoll). WriteEnds t new u' x (past_of q.now (length calls) calls' wire)) is ends_so)
+  write_fails e is = fails_behind t old new log log' wire u u' calls calls' told' q write_room e (subst (λ (x : WritePoll). WriteEnds t new u' x (past_of q.now (length calls) calls' wire)) is ends_so)
 
   -- and leaves no chunk, unless its error may
   pub write_clears : (e : Error) → r ≡ wrote.Failed e → HasCleared (sent_at (all_places (going_on q (length calls) (length calls'))) calls' wire) t.at (fresh_upload (put_aim t)) e
@@ -252,10 +285,10 @@ module _ (supply : Supply) (t : PutTask) (ids later : ℕ → List ℕ) (old new
       cleared_by (sent_at (all_places q') calls' wire) t u e tells.aim_is (cleared_settles calls calls' wire (all_places q) (all_places q') t.at u e (settled_all q q' (length calls) (length calls') write_room (whole_going q (length calls) (length calls'))) h)
 
   -- and it sent its commands in their order
-  pub write_said : (e : Error) → r ≡ wrote.Failed e → PutSaid calls' (going_on q (length calls) (length calls')) (λ commands. PutEndsSent supply t (sent_at (sent_since q.now (length calls) (length calls')) calls' wire) commands (ended.Failed e))
+  pub write_said : (e : Error) → r ≡ wrote.Failed e → PutSaid calls' (going_on q (length calls) (length calls')) (λ commands. PutEndsSent supply t (sent_at (all_places (going_on q (length calls) (length calls'))) calls' wire) (sent_at (sent_since q.now (length calls) (length calls')) calls' wire) commands (ended.Failed e))
   write_said e is =
-      let s = said_so (going_on q (length calls) (length calls')) (whole_going q (length calls) (length calls')) (wrote.Failed e) is in
-      record { within = s.within; sends = (s.sends.0, s.sends.1, so_behind t old new log log' wire u u' calls calls' told' q supply e s.sends.1.0 s.sends.1.1 s.sends.0 s.sends.2) }
+      let s = said_so (going_on q (length calls) (length calls')) (whole_going q (length calls) (length calls')) still_ordered (wrote.Failed e) is in
+      record { within = s.within; ordered = s.ordered; sends = (s.sends.0, s.sends.1, so_behind t old new log log' wire u u' calls calls' told' q write_room supply e s.sends.1.0 s.sends.1.1 s.sends.0 s.sends.2) }
 
   -- and over all chunks only
   pub write_lays : (e : Error) → r ≡ wrote.Failed e → EndLays (sent_at (all_places (going_on q (length calls) (length calls'))) calls' wire) t
@@ -305,14 +338,18 @@ module _ (supply : Supply) (t : PutTask) (ids later : ℕ → List ℕ) (moment 
   abbrev Reasons : Error → ℕ → Option ℤ → Bool → Type 0
   Reasons = Reason q.now (length calls) wire log' supply t
 
-  end_ordered : (more : List Fields) × AddsJust log log' more × CloseSaid supply t Reasons (commands_at calls (all_places q) ++ more) u' r
-  end_ordered = close_order supply t old new log log' wire ids polled.drawn polled.twelve u u' between tells.aim_is (commands_at calls (all_places q)) tells.said.sends tells.supplied calls told q.now tells.underway (tells.its, tells.reads) made all doing tells.cut tells.flies moment its r polled.does
+  end_ordered : (more : List Fields) × AddsJust log log' more × CloseSaid supply t (past_of (all_places q) (length calls) calls' wire) (past_of q.now (length calls) calls' wire) Reasons (commands_at calls (all_places q) ++ more) u' r
+  end_ordered = close_order supply t old new log log' wire ids polled.drawn polled.twelve u u' between tells.aim_is (commands_at calls (all_places q)) tells.supplied calls calls' told told' q.now (all_places q) (now_last calls q tells.said.within tells.said.ordered) tells.said.sends tells.underway (tells.its, tells.reads) made all doing tells.cut tells.flies moment its r polled.does
 
-  end_said : (x : Step2) → r ≡ x → PutSaid calls' (going_on q (length calls) (length calls')) (λ commands. CloseSaid supply t Reasons commands u' x)
+  end_said : (x : Step2) → r ≡ x → PutSaid calls' (going_on q (length calls) (length calls')) (λ commands. CloseSaid supply t (sent_at (all_places (going_on q (length calls) (length calls'))) calls' wire) (past_of q.now (length calls) calls' wire) Reasons commands u' x)
   end_said x is =
       let q' : Places = going_on q (length calls) (length calls') in
-      subst (λ (y : Step2). PutSaid calls' q' (λ commands. CloseSaid supply t Reasons commands u' y)) is
-      (said_more log log' calls calls' q q' (λ commands. DoingSent supply t commands u.checked u.sent u.doing) (λ commands. CloseSaid supply t Reasons commands u' r) told told' close_adds.keeps (whole_going q (length calls) (length calls')) tells.said end_ordered)
+      let now : Past = sent_at (all_places q') calls' wire in
+      let its : Past = past_of q.now (length calls) calls' wire in
+      let whole = whole_going q (length calls) (length calls') in
+      let on = close_grows (past_of (all_places q) (length calls) calls' wire) now (all_ended q q' (length calls) calls' wire close_room whole) supply t its Reasons (commands_at calls (all_places q) ++ end_ordered.0) u' r end_ordered.2 in
+      subst (λ (y : Step2). PutSaid calls' q' (λ commands. CloseSaid supply t now its Reasons commands u' y)) is
+      (said_more log log' calls calls' q q' (λ commands. DoingSent supply t (sent_at (all_places q) calls wire) (sent_at q.now calls wire) commands u.checked u.sent u.doing) (λ commands. CloseSaid supply t now its Reasons commands u' r) told told' close_adds.keeps whole (going_ordered calls q tells.said.within tells.said.ordered (length calls') close_room) tells.said (end_ordered.0, end_ordered.1, on))
 
   end_taken : taken_in u.doing t.pieces made ≡ joined t.pieces
   end_taken = taken_whole u.doing t.pieces made doing all
@@ -341,10 +378,10 @@ module _ (supply : Supply) (t : PutTask) (ids later : ℕ → List ℕ) (moment 
         flies = stands.1;
         supplied = subst (λ (x : Step2). AheadEnd x (DoingSupplied supply t later u'.sent u'.doing)) is end_supplied;
         its = (subst (λ (x : Step2). CloseEnds t new u' x (past_of q.now (length calls) calls' wire)) is closed_so).0;
-        reads = reads_behind t old new log log' wire u u' calls calls' told' q (subst (λ (x : Step2). CloseEnds t new u' x (past_of q.now (length calls) calls' wire)) is closed_so).1;
+        reads = reads_behind t old new log log' wire u u' calls calls' told' q close_room (subst (λ (x : Step2). CloseEnds t new u' x (past_of q.now (length calls) calls' wire)) is closed_so).1;
         knows = knows_behind t old new log log' wire u u' calls calls' told' q (going_on q (length calls) (length calls')) (taken_in u.doing t.pieces made) (taken_in u'.doing t.pieces made) close_room (whole_going q (length calls) (length calls')) (end_taken ∙ sym taken)
             (subst (AfterClose new (past_of (all_places q) (length calls) calls' wire) t.at u u' (taken_in u.doing t.pieces made)) is end_stored);
-        said = end_said end.Pending is;
+        said = said_behind t old new log log' wire u u' calls calls' told' q supply (going_on q (length calls) (length calls')) (end_said end.Pending is);
         lays = lays_behind t old new log log' wire u u' calls calls' told' q (going_on q (length calls) (length calls')) close_room (whole_going q (length calls) (length calls')) (subst (λ (x : Step2). CloseLays t u' x (past_of (all_places q) (length calls) calls' wire)) is end_laid);
       }
 
@@ -359,7 +396,7 @@ module _ (supply : Supply) (t : PutTask) (ids later : ℕ → List ℕ) (moment 
 
   -- it fails
   pub close_fails : (e : Error) → r ≡ end.Failed e → PutFails (sent_at (sent_since q.now (length calls) (length calls')) calls' wire) t e
-  close_fails e is = fails_behind t old new log log' wire u u' calls calls' told' q e (subst (λ (x : Step2). CloseEnds t new u' x (past_of q.now (length calls) calls' wire)) is closed_so)
+  close_fails e is = fails_behind t old new log log' wire u u' calls calls' told' q close_room e (subst (λ (x : Step2). CloseEnds t new u' x (past_of q.now (length calls) calls' wire)) is closed_so)
 
   -- and leaves no chunk, unless its error may
   pub close_clears : (e : Error) → r ≡ end.Failed e → HasCleared (sent_at (all_places (going_on q (length calls) (length calls'))) calls' wire) t.at (fresh_upload (put_aim t)) e
@@ -373,13 +410,13 @@ module _ (supply : Supply) (t : PutTask) (ids later : ℕ → List ℕ) (moment 
       cleared_by (sent_at (all_places q') calls' wire) t u e tells.aim_is (cleared_settles calls calls' wire (all_places q) (all_places q') t.at u e (settled_all q q' (length calls) (length calls') close_room (whole_going q (length calls) (length calls'))) h)
 
   -- it sent its commands in their order
-  pub close_said_done : (n : ℕ) → r ≡ end.Done → PutSaid calls' (going_on q (length calls) (length calls')) (λ commands. PutEndsSent supply t (sent_at (sent_since q.now (length calls) (length calls')) calls' wire) commands (ended.Gave n))
+  pub close_said_done : (n : ℕ) → r ≡ end.Done → PutSaid calls' (going_on q (length calls) (length calls')) (λ commands. PutEndsSent supply t (sent_at (all_places (going_on q (length calls) (length calls'))) calls' wire) (sent_at (sent_since q.now (length calls) (length calls')) calls' wire) commands (ended.Gave n))
   close_said_done n is = end_said end.Done is
 
-  pub close_said_fails : (e : Error) → r ≡ end.Failed e → PutSaid calls' (going_on q (length calls) (length calls')) (λ commands. PutEndsSent supply t (sent_at (sent_since q.now (length calls) (length calls')) calls' wire) commands (ended.Failed e))
+  pub close_said_fails : (e : Error) → r ≡ end.Failed e → PutSaid calls' (going_on q (length calls) (length calls')) (λ commands. PutEndsSent supply t (sent_at (all_places (going_on q (length calls) (length calls'))) calls' wire) (sent_at (sent_since q.now (length calls) (length calls')) calls' wire) commands (ended.Failed e))
   close_said_fails e is =
       let s = end_said (end.Failed e) is in
-      record { within = s.within; sends = (s.sends.0, s.sends.1, so_behind t old new log log' wire u u' calls calls' told' q supply e s.sends.1.0 s.sends.1.1 s.sends.0 s.sends.2) }
+      record { within = s.within; ordered = s.ordered; sends = (s.sends.0, s.sends.1, so_behind t old new log log' wire u u' calls calls' told' q close_room supply e s.sends.1.0 s.sends.1.1 s.sends.0 s.sends.2) }
 
   -- and its record over all chunks only
   pub close_lays_done : r ≡ end.Done → EndLays (sent_at (all_places (going_on q (length calls) (length calls'))) calls' wire) t

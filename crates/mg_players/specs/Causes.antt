@@ -362,7 +362,7 @@ pub record PutEnds (awaited : Awaited) (c : Course) (i : ℕ) (calls : List Call
   pub waits : pends_last i c.order c.notes ≡ true → IsUnfinished end → PutWaits awaited (sent_at places calls wire) t
   pub written : HasWritten t (length owns) end
   -- these are its commands, in their order, with what it is supplied with
-  pub sends : PutEndsSent supply t (sent_at places calls wire) (commands_at calls (places_of c i)) end
+  pub sends : PutEndsSent supply t (sent_at (concat owns ++ places) calls wire) (sent_at places calls wire) (commands_at calls (places_of c i)) end
 
 -- ---- all jobs
 

@@ -1,18 +1,32 @@
 -- Replies that a call heard to the getMores of a cursor, one behind another, and which of their batches were empty.
-use Rattle.std.specs.Prelude.{◌≡◌, ◌≢◌, ◌<◌, ℕ, suc, pos, List, [], ◌∷◌, Option, Some, None, Ok}
+use Rattle.std.specs.Prelude.{◌≡◌, ◌≢◌, ◌<◌, ◌≤◌, ℕ, suc, pos, List, [], ◌∷◌, length, Option, Some, None, Ok}
 use Rattle.mg_bson.specs.Raw.{fields}
-use Rattle.mg_link.specs.Calls.{HeardAt, Past}
-use Rattle.mg_link.specs.Exec.{IsSuccess}
+use Rattle.mg_link.specs.Calls.{HeardAt, IsOwn, Past}
+use Rattle.mg_link.specs.Exec.{IsSuccess, Sending, ticket_of}
+use Rattle.mg_link.specs.Link.{Awaited}
 use Rattle.mg_link.specs.Log.{reply}
 use Rattle.mg_link.specs.Session.{Session}
 use Rattle.mg_ops.specs.Cursors.{Cursor, cursor_of}
 use Rattle.mg_cursor.specs.Batches.{documents_of}
 use Rattle.mg_cursor.specs.Client.{ClientCursor, Doing, asks, at_rest, behind_reply, get_more, holds, rests}
 
--- The call heard these replies to the getMores of a cursor that the server held, which left it so: each at its place in the log, behind that of the one before.
+-- the call sent a command that stands at this place of the log
+abbrev pub HasSentAt : Past → ℕ → Type 0
+HasSentAt past place = IsOwn past place × (place < length past.calls)
+
+-- behind this place it sent nothing
+abbrev pub NoneBehind : Past → ℕ → Type 0
+NoneBehind past last = (place : ℕ) → HasSentAt past place → place ≤ last
+
+-- behind the first of these places it sent nothing before the second
+abbrev pub IsNext : Past → ℕ → ℕ → Type 0
+IsNext past last next = (last < next) × ((place : ℕ) → HasSentAt past place → last < place → next ≤ place)
+
+-- The call heard these replies to the getMores of a cursor that the server held, which left it so: each at its place in the log, and between that of the one before
+-- and its own the call sent nothing.
 abbrev pub AreInTurn : Past → ClientCursor → ℕ → List (ℕ × List ℕ) → ClientCursor → Type 0
 AreInTurn past c last [] c' = c' ≡ at_rest c
-AreInTurn past c last (h ∷ more) c' = (last < h.0) × (c.id ≢ pos 0) × (session : Option Session) × HeardAt past h.0 (get_more c session) (reply h.1) × IsSuccess h.1 × (said : Cursor) × (cursor_of (fields h.1) ≡ Ok said) × AreInTurn past (behind_reply said c) h.0 more c'
+AreInTurn past c last (h ∷ more) c' = IsNext past last h.0 × (c.id ≢ pos 0) × (session : Option Session) × HeardAt past h.0 (get_more c session) (reply h.1) × IsSuccess h.1 × (said : Cursor) × (cursor_of (fields h.1) ≡ Ok said) × AreInTurn past (behind_reply said c) h.0 more c'
 
 -- the place of the newest
 abbrev pub newest : ℕ → List (ℕ × List ℕ) → ℕ
@@ -41,3 +55,15 @@ abbrev pub empty_taken : Doing → ℕ → ℕ
 empty_taken rests n = n
 empty_taken (holds bytes) n = 0
 empty_taken (asks sending) n = n
+
+-- the getMore of a cursor is on its way, and stands at this place
+pub record IsAwaitedAt (awaited : Awaited) (c : ClientCursor) (place : ℕ) : Type 0 where
+  pub sending : Sending
+  pub ticket : ℕ
+  pub asked : c.doing ≡ asks sending
+  pub held : ticket_of sending ≡ Some ticket
+  pub at : awaited ticket ≡ Some place
+
+-- behind this place the call sent nothing but the getMore on its way
+abbrev pub AloneBehind : Awaited → Past → ClientCursor → ℕ → Type 0
+AloneBehind awaited past c last = (place : ℕ) → HasSentAt past place → last < place → IsAwaitedAt awaited c place

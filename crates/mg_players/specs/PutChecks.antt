@@ -1,6 +1,7 @@
--- The commands of the check of a put's bucket, in their order.
+-- The commands of the check of a put's bucket, in their order, and what was heard to them.
 use Rattle.std.specs.Prelude.{◌≡◌, ◌⊎◌, ◌≤◌, ◌++◌, ℕ, ℤ, Bool, true, false, List, [], ◌∷◌, replicate}
 use Rattle.mg_bson.specs.Tree.{Fields}
+use Rattle.mg_link.specs.Calls.{Past}
 use Rattle.mg_link.specs.Exec.{Stage, first, second, unsent}
 use Rattle.mg_link.specs.Namespace.{Space}
 use Rattle.mg_options.specs.Fields.{fields_in}
@@ -11,6 +12,7 @@ use Rattle.mg_gridfs.specs.Commands.{any_lines, creation_lines, index_lines, lis
 use Rattle.mg_gridfs.specs.declared.indexes.Place.{Place}
 use Rattle.mg_gridfs.specs.declared.indexes.Place.TheVariants as place
 use Rattle.mg_players.specs.Gets.{no_manner}
+use Rattle.mg_players.specs.PutFailures.{HeardCreation, HeardIndexes, HeardNone, HeardSome, HeardWhole}
 
 -- ---- its commands
 
@@ -63,17 +65,24 @@ pub record SendsIndex (b : ClientBucket) (at : Place) (count : ℕ) (commands : 
   pub parts : commands ≡ list ++ replicate count (index_creation b at)
   pub listed : SendsList b at list
 
--- all commands for a collection: its index is created once, or not at all
-pub record SendsWhole (b : ClientBucket) (at : Place) (commands : List Fields) : Type 0 where
-  pub count : ℕ
-  pub once : count ≤ 1
-  pub ends : SendsIndex b at count commands
+-- how often its index is created: just where the list had none
+abbrev pub where_missing : Bool → ℕ
+where_missing true = 0
+where_missing false = 1
 
--- the commands for a collection up to some point: to its creation, to the list of its indexes, or behind that
-pub data SendsPart (b : ClientBucket) (at : Place) (commands : List Fields) : Type 0 where
-  to_creation : (count : ℕ) → count ≤ 1 → SendsCreation b at count commands → SendsPart b at commands
-  to_listing : (count : ℕ) → count ≤ 2 → AsksForList b at count commands → SendsPart b at commands
-  to_index : SendsWhole b at commands → SendsPart b at commands
+-- all commands for a collection, by what was heard of it
+pub record SendsWhole (past : Past) (b : ClientBucket) (at : Place) (commands : List Fields) : Type 0 where
+  pub found : Bool
+  pub ends : SendsIndex b at (where_missing found) commands
+  pub heard : HeardWhole past b at found
+
+-- The commands for a collection up to some point: to its creation; to the list of its indexes, once it was heard that the collection is there; behind that list; or to the
+-- creation of its index, where none of the list is it.
+pub data SendsPart (past : Past) (b : ClientBucket) (at : Place) (commands : List Fields) : Type 0 where
+  to_creation : (count : ℕ) → count ≤ 1 → SendsCreation b at count commands → SendsPart past b at commands
+  to_listing : HeardCreation past b at → (count : ℕ) → count ≤ 2 → AsksForList b at count commands → SendsPart past b at commands
+  to_list : HeardCreation past b at → SendsList b at commands → SendsPart past b at commands
+  to_index : HeardCreation past b at → HeardIndexes past b at false → (count : ℕ) → count ≤ 1 → SendsIndex b at count commands → SendsPart past b at commands
 
 -- ---- the whole check
 
@@ -84,27 +93,27 @@ pub record SendsFind (b : ClientBucket) (commands : List Fields) : Type 0 where
   pub some : 1 ≤ count
   pub few : count ≤ 2
 
--- what comes before the commands for a collection: the find, and before those for the chunks all of those for the files
-abbrev pub SendsBefore : ClientBucket → Place → List Fields → Type 0
-SendsBefore b place.Files commands = SendsFind b commands
-SendsBefore b place.Chunks commands = (front : List Fields) × (files : List Fields) × (commands ≡ front ++ files) × SendsFind b front × SendsWhole b place.Files files
+-- what comes before the commands for a collection: the find, by which the bucket holds no file, and before those for the chunks all of those for the files
+abbrev pub SendsBefore : Past → ClientBucket → Place → List Fields → Type 0
+SendsBefore past b place.Files commands = SendsFind b commands × HeardNone past b
+SendsBefore past b place.Chunks commands = (front : List Fields) × (files : List Fields) × (commands ≡ front ++ files) × (SendsFind b front × HeardNone past b) × SendsWhole past b place.Files files
 
 -- that, and then such commands for the collection
-pub record SendsBehind (b : ClientBucket) (at : Place) (Part : List Fields → Type 0) (commands : List Fields) : Type 0 where
+pub record SendsBehind (past : Past) (b : ClientBucket) (at : Place) (Part : List Fields → Type 0) (commands : List Fields) : Type 0 where
   pub front : List Fields
   pub part : List Fields
   pub parts : commands ≡ front ++ part
-  pub before : SendsBefore b at front
+  pub before : SendsBefore past b at front
   pub its : Part part
 
 -- The commands of a check up to some point: its find, twice at most; then those for the files; then, behind all of these, those for the chunks.
-pub data CheckSends (b : ClientBucket) (commands : List Fields) : Type 0 where
-  to_find : (count : ℕ) → count ≤ 2 → commands ≡ replicate count (any_find b) → CheckSends b commands
-  to_part : (at : Place) → SendsBehind b at (SendsPart b at) commands → CheckSends b commands
+pub data CheckSends (past : Past) (b : ClientBucket) (commands : List Fields) : Type 0 where
+  to_find : (count : ℕ) → count ≤ 2 → commands ≡ replicate count (any_find b) → CheckSends past b commands
+  to_part : (at : Place) → SendsBehind past b at (SendsPart past b at) commands → CheckSends past b commands
 
--- all commands of a check that passed: its find alone, or those for both collections too
-abbrev pub CheckPasses : ClientBucket → List Fields → Type 0
-CheckPasses b commands = SendsFind b commands ⊎ SendsBehind b place.Chunks (SendsWhole b place.Chunks) commands
+-- all commands of a check that passed: its find alone, by which the bucket holds a file, or those for both collections too
+abbrev pub CheckPasses : Past → ClientBucket → List Fields → Type 0
+CheckPasses past b commands = (SendsFind b commands × HeardSome past b) ⊎ SendsBehind past b place.Chunks (SendsWhole past b place.Chunks) commands
 
 -- ---- while it goes on
 
@@ -120,9 +129,9 @@ count_at again (first ticket) = 1
 count_at again (second ticket) = most_often again
 
 -- the commands of a check by how far it has come
-abbrev pub CheckSentAt : ClientBucket → List Fields → ClientCheck → Type 0
-CheckSentAt b commands (finds sending) = commands ≡ replicate (count_at true sending.stage) (any_find b)
-CheckSentAt b commands (creates at sending) = SendsBehind b at (SendsCreation b at (count_at false sending.stage)) commands
-CheckSentAt b commands (lists at sending) = SendsBehind b at (AsksForList b at (count_at true sending.stage)) commands
-CheckSentAt b commands (reads at cursor found count) = SendsBehind b at (SendsList b at) commands
-CheckSentAt b commands (indexes at sending) = SendsBehind b at (SendsIndex b at (count_at false sending.stage)) commands
+abbrev pub CheckSentAt : Past → ClientBucket → List Fields → ClientCheck → Type 0
+CheckSentAt past b commands (finds sending) = commands ≡ replicate (count_at true sending.stage) (any_find b)
+CheckSentAt past b commands (creates at sending) = SendsBehind past b at (SendsCreation b at (count_at false sending.stage)) commands
+CheckSentAt past b commands (lists at sending) = HeardCreation past b at × SendsBehind past b at (AsksForList b at (count_at true sending.stage)) commands
+CheckSentAt past b commands (reads at cursor found count) = HeardCreation past b at × SendsBehind past b at (SendsList b at) commands
+CheckSentAt past b commands (indexes at sending) = HeardCreation past b at × HeardIndexes past b at false × SendsBehind past b at (SendsIndex b at (count_at false sending.stage)) commands

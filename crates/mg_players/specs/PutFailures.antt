@@ -1,10 +1,11 @@
 -- Why a put fails whose upload was opened.
-use Rattle.std.specs.Prelude.{◌≡◌, ◌≢◌, ◌⊎◌, ◌<◌, ◌≤◌, ◌+◌, ◌*◌, ◌^◌, ℕ, false, true, List, [], ◌∷◌, ◌++◌, length, Option, None, Some, Ok, unwrap_or}
+use Rattle.std.specs.Prelude.{◌≡◌, ◌≢◌, ◌⊎◌, ◌<◌, ◌≤◌, ◌+◌, ◌*◌, ◌^◌, ℕ, ℤ, pos, Bool, false, true, List, [], ◌∷◌, ◌++◌, length, Option, None, Some, Ok, unwrap_or}
 use Rattle.mg_bson.specs.Raw.{fields}
-use Rattle.mg_bson.specs.Tree.{Fields, no_items}
+use Rattle.mg_bson.specs.Reading.{doc}
+use Rattle.mg_bson.specs.Tree.{Fields, Items, no_items}
 use Rattle.mg_link.specs.Calls.{Flies, Grows, HeardAt, HeardBy, IsOwn, Past, RequestFails, past_of}
 use Rattle.mg_link.specs.Errors.{command_code, plain}
-use Rattle.mg_link.specs.Exec.{IsSuccess, Sending, ticket_of}
+use Rattle.mg_link.specs.Exec.{FailsByReply, IsSuccess, Sending, ticket_of}
 use Rattle.mg_link.specs.Link.{Awaited}
 use Rattle.mg_link.specs.Log.{reply}
 use Rattle.mg_link.specs.Owner.{IsOf}
@@ -15,6 +16,7 @@ use Rattle.mg_link.specs.declared.error.GridFsErrorKind.TheVariants as grid
 use Rattle.mg_options.specs.Fields.{Line, fields_in}
 use Rattle.mg_ops.specs.Cursors.{Cursor, OpensWith, cursor_of}
 use Rattle.mg_ops.specs.Failing.{CannotBeSent}
+use Rattle.mg_ops.specs.Writes.{failures_of}
 use Rattle.mg_ops.specs.declared.cursor_reply.CursorSpecification.{CursorSpecification}
 use Rattle.mg_cursor.specs.Batches.{BreaksBatch, documents_of}
 use Rattle.mg_cursor.specs.Causes.{HeardMore, MoreFails, TellsNoCursor}
@@ -24,16 +26,18 @@ use Rattle.mg_cursor.specs.Documents.{DocumentCursor}
 use Rattle.mg_cursor.specs.Polling.{CannotAsk}
 use Rattle.mg_cursor.specs.Seeking.{most_empty}
 use Rattle.mg_records.specs.Readings.{FailsToRead, recorded}
-use Rattle.mg_records.specs.Specifications.{index_of}
+use Rattle.mg_records.specs.Specifications.{ListedIndex, index_of}
 use Rattle.mg_gridfs.specs.Buckets.{ClientBucket}
 use Rattle.mg_gridfs.specs.Causes.{ArePortion, HeardRemoved, IsRest, ListsFailure, RemovalFails, UploadFails}
-use Rattle.mg_gridfs.specs.Checks.{ClientCheck, creates, finds, indexes, lists, namespace_exists, reads}
+use Rattle.mg_gridfs.specs.Checks.{ClientCheck, creates, finds, index_in, indexes, lists, namespace_exists, reads}
 use Rattle.mg_gridfs.specs.Commands.{CannotSend, CannotStore, any_lines, chunk_document, chunks_lines, creation_lines, index_lines, listing_lines, record_lines}
+use Rattle.mg_gridfs.specs.Indexes.{are_keys}
 use Rattle.mg_gridfs.specs.Steps.{FailsToUndo}
 use Rattle.mg_gridfs.specs.Uploads.{Aim, Doing, Ending, Phase, begins, busy, checks, closed, ends, fills, idle, inserts, lands, lasts, record_of, records, removes, rests, undoes}
 use Rattle.mg_gridfs.specs.declared.indexes.Place.{Place}
 use Rattle.mg_gridfs.specs.declared.indexes.Place.TheVariants as place
-use Rattle.mg_players.specs.InTurn.{AreInTurn, empty_by, empty_taken, empty_with, newest}
+use Rattle.mg_players.specs.Asking.{FliesLast}
+use Rattle.mg_players.specs.InTurn.{AloneBehind, AreInTurn, HasSentAt, NoneBehind, empty_by, empty_taken, empty_with, newest}
 use Rattle.mg_players.specs.Puts.{PutTask, put_aim, put_bucket, total}
 
 -- ---- the list of the indexes
@@ -62,15 +66,26 @@ held_by (h ∷ more) = held_in h.1 + held_by more
 abbrev pub brought : {past : Past} {b : ClientBucket} {c : ClientCursor} → IsOfList past b c → ℕ
 brought l = held_in l.first + held_by l.replies
 
+-- these documents, batch behind batch
+abbrev pub documents_in : List ℕ → List (List ℕ)
+documents_in bytes = unwrap_or (documents_of bytes) []
+
+abbrev pub documents_by : List (ℕ × List ℕ) → List (List ℕ)
+documents_by [] = []
+documents_by (h ∷ more) = documents_in h.1 ++ documents_by more
+
+abbrev pub its_documents : {past : Past} {b : ClientBucket} {c : ClientCursor} → IsOfList past b c → List (List ℕ)
+its_documents l = documents_in l.first ++ documents_by l.replies
+
 -- how many of these batches are empty at their end
 abbrev pub last_empty : {past : Past} {b : ClientBucket} {c : ClientCursor} → IsOfList past b c → ℕ
 last_empty l = empty_by (empty_with 0 (documents_of l.first)) l.replies
 
 -- the documents of the reply in hand
-abbrev pub in_hand : client.Doing → ℕ
-in_hand client.rests = 0
-in_hand (holds bytes) = held_in bytes
-in_hand (client.asks sending) = 0
+abbrev pub documents_held : client.Doing → List (List ℕ)
+documents_held client.rests = []
+documents_held (holds bytes) = documents_in bytes
+documents_held (client.asks sending) = []
 
 -- the call heard this batch of such a list
 pub data IsListBatch (past : Past) (b : ClientBucket) (bytes : List ℕ) : Type 0 where
@@ -92,26 +107,61 @@ pub record AreListed (past : Past) (b : ClientBucket) (documents : List (List �
   pub front : List (List ℕ)
   pub holds : documents_of bytes ≡ Some (front ++ documents)
 
--- What the call knows of a list that it reads: which cursor it is, that the reply in hand is the first of it, and whence the documents that are left; how many
--- batches in a row came empty, which are not too many; that it was given so many documents of those that it heard; and that its getMore on its way stands in the log
--- behind all replies.
-pub record ReadsList (awaited : Awaited) (past : Past) (b : ClientBucket) (d : DocumentCursor) (count : ℕ) : Type 0 where
+-- What the call knows of a list that it reads: which cursor it is, of which collection, that the reply in hand is the first of it, and whence the documents that are left; how
+-- many batches in a row came empty, which are not too many; that it was given these documents of those that it heard, the first ones; and that behind all replies nothing of the
+-- call stands in the log but its getMore on its way.
+pub record ReadsList (awaited : Awaited) (past : Past) (b : ClientBucket) (d : DocumentCursor) (k : Place) (given : List (List ℕ)) : Type 0 where
   pub of_list : IsOfList past b d.cursor
+  pub is_at : of_list.at ≡ k
   pub hand : (bytes : List ℕ) → d.cursor.doing ≡ holds bytes → (of_list.first ≡ bytes) × (of_list.replies ≡ [])
   pub left : (d.behind ≡ []) ⊎ (AreListed past b d.behind × (d.empty ≡ 0))
   pub empties : d.empty ≡ empty_taken d.cursor.doing (last_empty of_list)
   pub few : d.empty < most_empty
-  pub counted : count + (length d.behind + in_hand d.cursor.doing) ≡ brought of_list
+  pub all : its_documents of_list ≡ given ++ (d.behind ++ documents_held d.cursor.doing)
   pub within : newest of_list.place of_list.replies < length past.calls
   pub waits : (sending : Sending) (ticket place : ℕ) → d.cursor.doing ≡ client.asks sending → ticket_of sending ≡ Some ticket → awaited ticket ≡ Some place → newest of_list.place of_list.replies < place
+  pub alone : AloneBehind awaited past d.cursor (newest of_list.place of_list.replies)
+
+-- the call heard these documents of a list of the indexes of a collection, and read it to its end
+pub record HeardList (past : Past) (b : ClientBucket) (k : Place) (documents : List (List ℕ)) : Type 0 where
+  pub cursor : ClientCursor
+  pub of_list : IsOfList past b cursor
+  pub is_at : of_list.at ≡ k
+  pub over : cursor.id ≡ pos 0
+  pub all : its_documents of_list ≡ documents
+
+-- ---- the index of a collection
+
+-- a document of the list is an index with its keys, or one with others
+abbrev pub HasKeys : Place → Bool → List ℕ → Type 0
+HasKeys k its document = (i : ListedIndex) × index_in document i × (are_keys k i.keys ≡ its)
+
+abbrev pub AllOther : Place → List (List ℕ) → Type 0
+AllOther k [] = Unit {0}
+AllOther k (document ∷ documents) = HasKeys k false document × AllOther k documents
+
+-- one of these documents is its index, or none is
+abbrev pub HasFound : Place → Bool → List (List ℕ) → Type 0
+HasFound k true documents = (front : List (List ℕ)) × (document : List ℕ) × (after : List (List ℕ)) × (documents ≡ front ++ document ∷ after) × HasKeys k true document
+HasFound k false documents = AllOther k documents
+
+-- the whole list was read, which has no more documents than a list may have, and its index was found among them, or was not
+abbrev pub HeardIndexes : Past → ClientBucket → Place → Bool → Type 0
+HeardIndexes past b k found = (documents : List (List ℕ)) × HeardList past b k documents × HasFound k found documents × (length documents ≤ 1048576)
 
 -- ---- the creation before a list
 
--- the call heard what came of the creation of a collection
+-- a reply to its creation: the collection was created, or was there
+pub data MakesCollection (wire : ℤ) (bytes : List ℕ) : Type 0 where
+  creates_it : IsSuccess bytes → failures_of 0 (fields bytes) ≡ Ok [] → MakesCollection wire bytes
+  finds_it : (e : Error) → FailsByReply (doc bytes) wire e → command_code e.kind ≡ Some namespace_exists → MakesCollection wire bytes
+
+-- the call heard, by the reply to its creation, that a collection is there
 pub record HeardCreation (past : Past) (b : ClientBucket) (at : Place) : Type 0 where
   pub place : ℕ
   pub bytes : List ℕ
   pub heard : HeardAt past place (fields_in (creation_lines b at)) (reply bytes)
+  pub well : MakesCollection past.wire bytes
 
 -- so it is by those commands of the call alone that stand in the log behind this place
 pub record HoldsBehind (place : ℕ) (past : Past) (Says : Past → Type 0) : Type 0 where
@@ -120,7 +170,7 @@ pub record HoldsBehind (place : ℕ) (past : Past) (Says : Past → Type 0) : Ty
   pub behind : (p : ℕ) → IsOwn later p → place < p
   pub says : Says later
 
--- What the call knows of a list that it asks for: the creation of the collection was heard, and what is on its way was sent behind that.
+-- What the call knows of a list that it asks for: the creation of the collection was heard, and what is on its way was sent behind that, and behind all else that it sent.
 pub record AsksBehind (awaited : Awaited) (past : Past) (b : ClientBucket) (at : Place) (sending : Sending) : Type 0 where
   pub created : HeardCreation past b at
   pub near : List ℕ
@@ -128,33 +178,44 @@ pub record AsksBehind (awaited : Awaited) (past : Past) (b : ClientBucket) (at :
   pub within : (p : ℕ) → IsOf near p → p < length past.calls
   pub behind : (p : ℕ) → IsOf near p → created.place < p
   pub flies : Flies awaited (past_of near (length past.calls) past.calls past.wire) (fields_in (listing_lines b at)) sending.stage
+  pub last : FliesLast awaited (HasSentAt past) sending.stage
 
 -- ---- what comes next in a check
 
--- the call heard that the bucket holds no file
-pub record HeardNone (past : Past) (b : ClientBucket) : Type 0 where
+-- the call heard, by the reply to its find, which documents the bucket gave
+pub record HeardFind (past : Past) (b : ClientBucket) (Holds : Items → Type 0) : Type 0 where
   pub bytes : List ℕ
   pub heard : HeardBy past (fields_in (any_lines b)) (reply bytes)
+  pub success : IsSuccess bytes
   pub said : Cursor
   pub says : cursor_of (fields bytes) ≡ Ok said
-  pub none : said.batch ≡ no_items
+  pub holds : Holds said.batch
 
--- the call heard a list of the indexes of a collection
-abbrev pub HeardList : Past → ClientBucket → Place → Type 0
-HeardList past b at = (bytes : List ℕ) × HeardBy past (fields_in (listing_lines b at)) (reply bytes)
+-- none, so that it holds no file, or some
+abbrev pub HeardNone : Past → ClientBucket → Type 0
+HeardNone past b = HeardFind past b (λ (batch : Items). batch ≡ no_items)
 
--- the call heard what came of the creation of its index
+abbrev pub HeardSome : Past → ClientBucket → Type 0
+HeardSome past b = HeardFind past b (λ (batch : Items). batch ≢ no_items)
+
+-- the call heard that its index was created
 abbrev pub HeardIndex : Past → ClientBucket → Place → Type 0
-HeardIndex past b at = (bytes : List ℕ) × HeardBy past (fields_in (index_lines b at)) (reply bytes)
+HeardIndex past b at = (bytes : List ℕ) × HeardBy past (fields_in (index_lines b at)) (reply bytes) × IsSuccess bytes × (failures_of 0 (fields bytes) ≡ Ok [])
+
+-- What the call heard of a collection that is done: it is there; the list of its indexes was read to its end; and where none of these is its index, that was created.
+pub record HeardWhole (past : Past) (b : ClientBucket) (at : Place) (found : Bool) : Type 0 where
+  pub created : HeardCreation past b at
+  pub listed : HeardIndexes past b at found
+  pub made : found ≡ false → HeardIndex past b at
 
 -- The command that a check has to send next, by what its call heard: its find; the creation of the files, where the bucket holds no file; a list of indexes behind
--- the creation of its collection; the creation of an index behind that list; and the creation of the chunks once the files have their index.
+-- the creation of its collection; the creation of an index behind a whole list that has it not; and the creation of the chunks once the files are done.
 pub data ComesNext (past : Past) (b : ClientBucket) (lines : List Line) : Type 0 where
   the_find : lines ≡ any_lines b → ComesNext past b lines
   the_files : HeardNone past b → lines ≡ creation_lines b place.Files → ComesNext past b lines
   a_list : (at : Place) → HeardCreation past b at → lines ≡ listing_lines b at → ComesNext past b lines
-  an_index : (at : Place) → HeardList past b at → lines ≡ index_lines b at → ComesNext past b lines
-  the_chunks : HeardList past b place.Files ⊎ HeardIndex past b place.Files → lines ≡ creation_lines b place.Chunks → ComesNext past b lines
+  an_index : (at : Place) → HeardIndexes past b at false → lines ≡ index_lines b at → ComesNext past b lines
+  the_chunks : (found : Bool) → HeardWhole past b place.Files found → lines ≡ creation_lines b place.Chunks → ComesNext past b lines
 
 -- ---- how far it has come
 
@@ -162,8 +223,8 @@ abbrev pub CheckReads : Awaited → Past → ClientBucket → ClientCheck → Ty
 CheckReads awaited past b (finds sending) = Unit {0}
 CheckReads awaited past b (creates at sending) = Unit {0}
 CheckReads awaited past b (lists at sending) = AsksBehind awaited past b at sending
-CheckReads awaited past b (reads at cursor found count) = HeardList past b at × ReadsList awaited past b cursor count
-CheckReads awaited past b (indexes at sending) = Unit {0}
+CheckReads awaited past b (reads at cursor found count) = HeardCreation past b at × (given : List (List ℕ)) × (length given ≡ count) × HasFound at found given × ReadsList awaited past b cursor at given
+CheckReads awaited past b (indexes at sending) = HeardCreation past b at × HeardIndexes past b at false
 
 -- ---- the check of the indexes
 
@@ -180,9 +241,9 @@ pub data PutCheckFails (past : Past) (b : ClientBucket) (e : Error) : Type 0 whe
   -- a getMore of the list is not built, or fails
   not_asked : (c : ClientCursor) → IsOfList past b c → CannotAsk c None e → PutCheckFails past b e
   by_more : (c : ClientCursor) → IsOfList past b c → MoreFails past c e → PutCheckFails past b e
-  -- a batch of it holds what is no document; or as many came empty, one behind another, as are too many
+  -- a batch of it holds what is no document; or as many came empty, one behind another up to its last command, as are too many
   broken : (bytes : List ℕ) → IsListBatch past b bytes → BreaksBatch bytes e → PutCheckFails past b e
-  stays_empty : (c : ClientCursor) (l : IsOfList past b c) → last_empty l ≡ most_empty → e ≡ plain kind.EmptyBatches → PutCheckFails past b e
+  stays_empty : (c : ClientCursor) (l : IsOfList past b c) → last_empty l ≡ most_empty → NoneBehind past (newest l.place l.replies) → e ≡ plain kind.EmptyBatches → PutCheckFails past b e
   -- an item of it is no index
   no_index : (document : List ℕ) → IsListed past b document → FailsToRead (recorded (index_of (fields document))) e → PutCheckFails past b e
   -- or it has too many

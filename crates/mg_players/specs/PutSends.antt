@@ -1,8 +1,8 @@
 -- The commands of a put, in their order.
-use Rattle.std.specs.Prelude.{◌≡◌, ◌⊎◌, ◌<◌, ◌≤◌, ◌+◌, ◌++◌, ℕ, ℤ, Bool, true, false, List, [], ◌∷◌, length, Option, Some, None}
+use Rattle.std.specs.Prelude.{◌≡◌, ◌⊎◌, ◌<◌, ◌≤◌, ◌+◌, ◌^◌, ◌++◌, ℕ, ℤ, Bool, true, false, List, [], ◌∷◌, length, Option, Some, None}
 use Rattle.mg_bson.specs.Raw.{fields}
 use Rattle.mg_bson.specs.Tree.{Fields}
-use Rattle.mg_link.specs.Calls.{Past}
+use Rattle.mg_link.specs.Calls.{Past, RequestFails}
 use Rattle.mg_link.specs.Errors.{plain}
 use Rattle.mg_link.specs.Exec.{Stage, unsent, first, second}
 use Rattle.mg_link.specs.Files.{chunked}
@@ -14,6 +14,7 @@ use Rattle.mg_ops.specs.Cursors.{next_command}
 use Rattle.mg_ops.specs.Failing.{CannotBeSent}
 use Rattle.mg_ops.specs.InsertCauses.{FitTogether}
 use Rattle.mg_ops.specs.Limits.{max_documents}
+use Rattle.mg_ops.specs.Writes.{NotInserted}
 use Rattle.mg_gridfs.specs.Buckets.{ClientBucket}
 use Rattle.mg_gridfs.specs.Causes.{IsOfCheck}
 use Rattle.mg_gridfs.specs.Commands.{CannotStore, chunk_documents, chunks_lines, deletion_lines, record_document, record_lines}
@@ -21,7 +22,7 @@ use Rattle.mg_gridfs.specs.Uploads as uploads
 use Rattle.mg_gridfs.specs.Uploads.{Doing, Phase, begins, busy, closed, ends, fills, idle, lands, lasts, rests, undoes}
 use Rattle.mg_players.specs.Gets.{no_manner}
 use Rattle.mg_players.specs.PutChecks.{CheckPasses, CheckSentAt, CheckSends}
-use Rattle.mg_players.specs.PutFailures.{AnswersFirst, FailsEarly, FailsFirst, HasManyChunks, IsCommonKind, check_fails, not_taken}
+use Rattle.mg_players.specs.PutFailures.{AnswersFirst, FailsEarly, FailsFirst, check_fails, not_taken}
 use Rattle.mg_players.specs.Puts.{CannotOpen, ComeNext, IsMoment, PutTask, Supply, joined, put_bucket, total}
 use Rattle.mg_script.specs.declared.outcome.Ended.{Ended}
 use Rattle.mg_script.specs.declared.outcome.Ended.TheVariants as ended
@@ -39,7 +40,7 @@ pub data IsCheckCommand (b : ClientBucket) (command : Fields) : Type 0 where
 abbrev pub file_chunks : PutTask → List (List ℕ)
 file_chunks t = chunked t.chunk (joined t.pieces)
 
--- the command inserts the chunks of the file from one on up to another, at least one, each with its own number and with the id of that number
+-- the command inserts the chunks of the file from one on up to another, at least one, each with its own number, none of which passes the greatest, and with the id of that number
 pub record InsertsChunks (supply : Supply) (t : PutTask) (from upto : ℕ) (command : Fields) : Type 0 where
   pub front : List (List ℕ)
   pub piece : List (List ℕ)
@@ -48,6 +49,7 @@ pub record InsertsChunks (supply : Supply) (t : PutTask) (from upto : ℕ) (comm
   pub behind : length front ≡ from
   pub some : 0 < length piece
   pub next : from + length piece ≡ upto
+  pub small : upto ≤ 2 ^ 31
   pub ids : ℕ → List ℕ
   pub drawn : ComeNext supply t ids from
   pub command_is : command ≡ fields_in (chunks_lines (put_bucket t) (chunk_documents ids 0 t.id from piece))
@@ -82,22 +84,23 @@ removal_if t true = chunks_removal t ∷ []
 
 -- ---- all commands
 
--- These are all commands that a put sent: first the check of its bucket's indexes, in its order, which was sent whole before the chunks of a file that has a full one, and
--- before their removal; then its chunks up to this number, from the first one on, each once and with its own id; then its record with this moment, which is that of the run, once, and only behind all
+-- These are all commands that a put sent, where it heard what this past holds: first the check of its bucket's indexes, in its order, which was sent whole before the chunks of a file that has a full one, and
+-- before their removal, and of which nothing is sent for a file that has none; then its chunks up to this number, from the first one on, each once and with its own id; then its record with this moment, which is that of the run, once, and only behind all
 -- chunks; then the removal of its chunks, once.
-pub record PutSends (supply : Supply) (t : PutTask) (commands : List Fields) (upto : ℕ) (moment : Option ℤ) (removed : Bool) : Type 0 where
+pub record PutSends (supply : Supply) (t : PutTask) (all : Past) (commands : List Fields) (upto : ℕ) (moment : Option ℤ) (removed : Bool) : Type 0 where
   pub check : List Fields
   pub chunks : List Fields
   pub parts : commands ≡ check ++ (chunks ++ (record_at t moment ++ removal_if t removed))
-  pub of_check : CheckSends (put_bucket t) check
+  pub of_check : CheckSends all (put_bucket t) check
   pub pieces : ChunkPieces supply t 0 chunks upto
-  pub checked : (0 < upto) ⊎ (removed ≡ true) → t.chunk ≤ total t.pieces → CheckPasses (put_bucket t) check
+  pub checked : (0 < upto) ⊎ (removed ≡ true) → t.chunk ≤ total t.pieces → CheckPasses all (put_bucket t) check
+  pub unneeded : total t.pieces < t.chunk → check ≡ []
   pub recorded : (m : ℤ) → moment ≡ Some m → upto ≡ length (file_chunks t)
   pub timely : (m : ℤ) → moment ≡ Some m → IsMoment supply.moment m
 
 -- some of its chunks, and its record or not
-abbrev pub SentSome : Supply → PutTask → List Fields → Bool → Type 0
-SentSome supply t commands removed = (upto : ℕ) × (moment : Option ℤ) × PutSends supply t commands upto moment removed
+abbrev pub SentSome : Supply → PutTask → Past → List Fields → Bool → Type 0
+SentSome supply t all commands removed = (upto : ℕ) × (moment : Option ℤ) × PutSends supply t all commands upto moment removed
 
 -- ---- why it failed
 
@@ -114,24 +117,34 @@ pub record AreNextChunks (supply : Supply) (t : PutTask) (from : ℕ) (documents
   pub drawn : ComeNext supply t ids from
   pub these : documents ≡ chunk_documents ids 0 t.id from piece
 
--- What a put has to send next behind so many chunks is not built: the next chunks, as many as fit into a command, or one of them alone, or the record behind all of them.
+-- What a put has to send next behind so many chunks is not built: next chunks that fit into a command, or one of them alone, or the record behind all of them; or next chunks that fit into
+-- a command are too many, since the number of the last of them passes the greatest.
 pub data NextNotBuilt (supply : Supply) (t : PutTask) (upto : ℕ) (e : Error) : Type 0 where
   next_chunks : (documents : List Fields) → AreNextChunks supply t upto documents → FitTogether documents → CannotStore (chunks_lines (put_bucket t) documents) documents e → NextNotBuilt supply t upto e
   next_chunk : (document : Fields) → AreNextChunks supply t upto (document ∷ []) → CannotBeSent document e → NextNotBuilt supply t upto e
+  too_many : (documents : List Fields) → AreNextChunks supply t upto documents → FitTogether documents → 2 ^ 31 < upto + length documents → e ≡ plain kind.FileTooLarge → NextNotBuilt supply t upto e
   the_record : upto ≡ length (file_chunks t) → (moment : ℤ) → IsMoment supply.moment moment → CannotStore (record_lines (put_bucket t) (its_record t moment)) (its_record t moment ∷ []) e → NextNotBuilt supply t upto e
 
--- a first error behind what was sent: where it says that something is not built, that is what comes next; and chunks are too many only where the pieces have as many bytes
-abbrev pub IsErrorBehind : Supply → PutTask → ℕ → Option ℤ → Error → Type 0
-IsErrorBehind supply t upto moment e = IsCommonKind e.kind ⊎ (((moment ≡ None) × NextNotBuilt supply t upto e) ⊎ ((e ≡ plain kind.FileTooLarge) × HasManyChunks t))
+-- the reply to an insert of so many documents lists failures, or breaks its grammar
+abbrev pub ListsSome : ℕ → List ℕ → Error → Type 0
+ListsSome count bytes e = NotInserted count (fields bytes) e
+
+-- A first error behind what was sent: memory ran out; what comes next is not built, or its chunks are too many; or the insert failed that was sent last, which is that of the newest chunks, or that of
+-- the record behind all of them.
+pub data IsErrorBehind (supply : Supply) (t : PutTask) (past : Past) (upto : ℕ) (moment : Option ℤ) (e : Error) : Type 0 where
+  out_of_memory : e.kind ≡ kind.OutOfMemory → IsErrorBehind supply t past upto moment e
+  not_built : moment ≡ None → NextNotBuilt supply t upto e → IsErrorBehind supply t past upto moment e
+  by_chunks : moment ≡ None → (from : ℕ) (command : Fields) (newest : InsertsChunks supply t from upto command) → RequestFails past command false (ListsSome (length newest.piece)) e → IsErrorBehind supply t past upto moment e
+  by_record : (m : ℤ) → moment ≡ Some m → RequestFails past (record_insert t m) false (ListsSome 1) e → IsErrorBehind supply t past upto moment e
 
 -- it sent some, for such a reason where it removed its chunks or did not
-abbrev pub SentFor : Supply → PutTask → List Fields → (ℕ → Option ℤ → Bool → Type 0) → Type 0
-SentFor supply t commands Why = (removed : Bool) × (sent : SentSome supply t commands removed) × Why sent.0 sent.1 removed
+abbrev pub SentFor : Supply → PutTask → Past → List Fields → (ℕ → Option ℤ → Bool → Type 0) → Type 0
+SentFor supply t all commands Why = (removed : Bool) × (sent : SentSome supply t all commands removed) × Why sent.0 sent.1 removed
 
--- a check is over before any chunk is sent; memory for the bytes of a piece may run out behind some, but before the record
+-- a check is over before any chunk is sent, and there is one only where the file has a full chunk; memory for the bytes of a piece may run out behind some, but before the record
 abbrev pub SentBefore : {past : Past} {t : PutTask} {e : Error} → FailsEarly past t e → ℕ → Option ℤ → Type 0
-SentBefore (check_fails failed) upto moment = (upto ≡ 0) × (moment ≡ None)
-SentBefore (not_taken is) upto moment = moment ≡ None
+SentBefore {past} {t} {e} (check_fails failed) upto moment = (upto ≡ 0) × (moment ≡ None) × (t.chunk ≤ total t.pieces)
+SentBefore {past} {t} {e} (not_taken is) upto moment = moment ≡ None
 
 -- why a put failed that sent its chunks up to this number, its record or not, and removed its chunks or did not
 pub data FailsSo (supply : Supply) (t : PutTask) (past : Past) (e : Error) (upto : ℕ) (moment : Option ℤ) (removed : Bool) : Type 0 where
@@ -140,17 +153,17 @@ pub data FailsSo (supply : Supply) (t : PutTask) (past : Past) (e : Error) (upto
   -- no chunk was to be removed, and none was
   early : removed ≡ false → (failed : FailsEarly past t e) → SentBefore failed upto moment → FailsSo supply t past e upto moment removed
   -- an insert had failed, or its chunks were too many: a removal is sent, unless memory runs out or it is not built
-  late : (original : Error) → FailsFirst past t original → IsErrorBehind supply t upto moment original → AnswersFirst past t original e → FailsSo supply t past e upto moment removed
+  late : (original : Error) → FailsFirst past t original → IsErrorBehind supply t past upto moment original → AnswersFirst past t original e → FailsSo supply t past e upto moment removed
 
 -- one that has not ended has removed its chunks only for such a first error
 abbrev pub StopsSo : Supply → PutTask → Past → ℕ → Option ℤ → Bool → Type 0
-StopsSo supply t past upto moment removed = removed ≡ true → (original : Error) × FailsFirst past t original × IsErrorBehind supply t upto moment original
+StopsSo supply t past upto moment removed = removed ≡ true → (original : Error) × FailsFirst past t original × IsErrorBehind supply t past upto moment original
 
--- where it ended well it sent all chunks and its record, and removed nothing
-abbrev pub PutEndsSent : Supply → PutTask → Past → List Fields → Ended ℕ → Type 0
-PutEndsSent supply t past commands ended.Unfinished = SentFor supply t commands (StopsSo supply t past)
-PutEndsSent supply t past commands (ended.Gave n) = (moment : ℤ) × PutSends supply t commands (length (file_chunks t)) (Some moment) false
-PutEndsSent supply t past commands (ended.Failed e) = SentFor supply t commands (FailsSo supply t past e)
+-- where it ended well it sent all chunks and its record, and removed nothing; the first past is that of all its calls, the second that of its last one
+abbrev pub PutEndsSent : Supply → PutTask → Past → Past → List Fields → Ended ℕ → Type 0
+PutEndsSent supply t all past commands ended.Unfinished = SentFor supply t all commands (StopsSo supply t past)
+PutEndsSent supply t all past commands (ended.Gave n) = (moment : ℤ) × PutSends supply t all commands (length (file_chunks t)) (Some moment) false
+PutEndsSent supply t all past commands (ended.Failed e) = SentFor supply t all commands (FailsSo supply t past e)
 
 -- ---- while it goes on
 
@@ -161,52 +174,54 @@ Around (first ticket) Before Behind = Behind
 Around (second ticket) Before Behind = Behind
 
 -- its check and its chunks up to this number; where it has not checked it sent nothing
-pub record SentChunks (supply : Supply) (t : PutTask) (commands : List Fields) (checked : Bool) (upto : ℕ) : Type 0 where
+pub record SentChunks (supply : Supply) (t : PutTask) (all : Past) (commands : List Fields) (checked : Bool) (upto : ℕ) : Type 0 where
   pub check : List Fields
   pub chunks : List Fields
   pub parts : commands ≡ check ++ chunks
-  pub of_check : CheckSends (put_bucket t) check
+  pub of_check : CheckSends all (put_bucket t) check
   pub pieces : ChunkPieces supply t 0 chunks upto
-  pub passed : checked ≡ true → CheckPasses (put_bucket t) check
+  pub passed : checked ≡ true → CheckPasses all (put_bucket t) check
+  pub unneeded : total t.pieces < t.chunk → check ≡ []
   pub nothing : checked ≡ false → commands ≡ []
 
 -- all its chunks, and its record or not
-abbrev pub SentAll : Supply → PutTask → List Fields → Option ℤ → Type 0
-SentAll supply t commands moment = PutSends supply t commands (length (file_chunks t)) moment false
+abbrev pub SentAll : Supply → PutTask → Past → List Fields → Option ℤ → Type 0
+SentAll supply t all commands moment = PutSends supply t all commands (length (file_chunks t)) moment false
 
 -- it has checked, or has no full chunk
 abbrev pub NeedsNoCheck : PutTask → Bool → Type 0
 NeedsNoCheck t checked = (checked ≡ true) ⊎ (total t.pieces < t.chunk)
 
 -- there is an error in hand, and it is a first one behind what was sent
-abbrev pub HoldsError : Supply → PutTask → ℕ → Option ℤ → Option Error → Type 0
-HoldsError supply t upto moment None = ⊥
-HoldsError supply t upto moment (Some original) = IsErrorBehind supply t upto moment original
+abbrev pub HoldsError : Supply → PutTask → Past → ℕ → Option ℤ → Option Error → Type 0
+HoldsError supply t past upto moment None = ⊥
+HoldsError supply t past upto moment (Some original) = IsErrorBehind supply t past upto moment original
 
 -- it sent some, and is on the way back with this error, behind the check of a file that has a full chunk
-pub record SentUntil (supply : Supply) (t : PutTask) (commands : List Fields) (error : Option Error) (removed : Bool) : Type 0 where
+pub record SentUntil (supply : Supply) (t : PutTask) (all past : Past) (commands : List Fields) (error : Option Error) (removed : Bool) : Type 0 where
   pub upto : ℕ
   pub moment : Option ℤ
-  pub sends : PutSends supply t commands upto moment removed
-  pub behind : t.chunk ≤ total t.pieces → CheckPasses (put_bucket t) sends.check
-  pub holds : HoldsError supply t upto moment error
+  pub sends : PutSends supply t all commands upto moment removed
+  pub behind : t.chunk ≤ total t.pieces → CheckPasses all (put_bucket t) sends.check
+  pub holds : HoldsError supply t past upto moment error
 
--- what it sent, by how far a call has come, where it checked or not and so many of its chunks are inserted: a put gives up no call
-abbrev pub PhaseSent : Supply → PutTask → List Fields → Bool → ℕ → Phase → Type 0
-PhaseSent supply t commands checked sent begins = commands ≡ []
-PhaseSent supply t commands checked sent (uploads.checks check) = CheckSentAt (put_bucket t) commands check
-PhaseSent supply t commands checked sent fills = SentChunks supply t commands true sent
-PhaseSent supply t commands checked sent (uploads.inserts sending count) = InsertsChunks supply t sent (sent + count) (fields sending.command) × Around sending.stage (SentChunks supply t commands true sent) (SentChunks supply t commands true (sent + count))
-PhaseSent supply t commands checked sent (rests moment) = SentChunks supply t commands checked sent
-PhaseSent supply t commands checked sent (lasts sending ending) = InsertsChunks supply t sent (length (file_chunks t)) (fields sending.command) × Around sending.stage (SentChunks supply t commands checked sent × NeedsNoCheck t checked) (SentAll supply t commands None)
-PhaseSent supply t commands checked sent (ends ending) = SentAll supply t commands None
-PhaseSent supply t commands checked sent (uploads.records sending ending) = (fields sending.command ≡ record_insert t ending.moment) × Around sending.stage (SentAll supply t commands None) (SentAll supply t commands (Some ending.moment))
-PhaseSent supply t commands checked sent (lands flight error) = ⊥
-PhaseSent supply t commands checked sent (undoes error) = SentUntil supply t commands error false
-PhaseSent supply t commands checked sent (uploads.removes sending error) = (fields sending.command ≡ chunks_removal t) × Around sending.stage (SentUntil supply t commands error false) (SentUntil supply t commands error true)
+-- What it sent, by how far a call has come, where it checked or not and so many of its chunks are inserted: a put gives up no call, and checks only where it has a full chunk. The first
+-- past is that of all its calls, the second that of the one that goes on.
+abbrev pub PhaseSent : Supply → PutTask → Past → Past → List Fields → Bool → ℕ → Phase → Type 0
+PhaseSent supply t all past commands checked sent begins = (commands ≡ []) × (t.chunk ≤ total t.pieces)
+PhaseSent supply t all past commands checked sent (uploads.checks check) = CheckSentAt all (put_bucket t) commands check × (t.chunk ≤ total t.pieces)
+PhaseSent supply t all past commands checked sent fills = SentChunks supply t all commands true sent
+PhaseSent supply t all past commands checked sent (uploads.inserts sending count) = InsertsChunks supply t sent (sent + count) (fields sending.command) × Around sending.stage (SentChunks supply t all commands true sent) (SentChunks supply t all commands true (sent + count))
+PhaseSent supply t all past commands checked sent (rests moment) = SentChunks supply t all commands checked sent
+PhaseSent supply t all past commands checked sent (lasts sending ending) = InsertsChunks supply t sent (length (file_chunks t)) (fields sending.command) × (sent + 1 ≡ length (file_chunks t)) × Around sending.stage (SentChunks supply t all commands checked sent × NeedsNoCheck t checked) (SentAll supply t all commands None)
+PhaseSent supply t all past commands checked sent (ends ending) = SentAll supply t all commands None
+PhaseSent supply t all past commands checked sent (uploads.records sending ending) = (fields sending.command ≡ record_insert t ending.moment) × Around sending.stage (SentAll supply t all commands None) (SentAll supply t all commands (Some ending.moment))
+PhaseSent supply t all past commands checked sent (lands flight error) = ⊥
+PhaseSent supply t all past commands checked sent (undoes error) = SentUntil supply t all past commands error false
+PhaseSent supply t all past commands checked sent (uploads.removes sending error) = (fields sending.command ≡ chunks_removal t) × Around sending.stage (SentUntil supply t all past commands error false) (SentUntil supply t all past commands error true)
 
 -- what it sent by what its upload is doing
-abbrev pub DoingSent : Supply → PutTask → List Fields → Bool → ℕ → Doing → Type 0
-DoingSent supply t commands checked sent idle = SentChunks supply t commands checked sent
-DoingSent supply t commands checked sent (busy call phase) = PhaseSent supply t commands checked sent phase
-DoingSent supply t commands checked sent closed = Unit {0}
+abbrev pub DoingSent : Supply → PutTask → Past → Past → List Fields → Bool → ℕ → Doing → Type 0
+DoingSent supply t all past commands checked sent idle = SentChunks supply t all commands checked sent
+DoingSent supply t all past commands checked sent (busy call phase) = PhaseSent supply t all past commands checked sent phase
+DoingSent supply t all past commands checked sent closed = Unit {0}

@@ -26,7 +26,7 @@ use Rattle.mg_gridfs.specs.Downloaded.{AreReceived, chunks_query}
 use Rattle.mg_gridfs.specs.Downloads.{ClientDownload, Doing, ended, idle, judged, missing_chunk, most_empty, reads, spoiled}
 use Rattle.mg_gridfs.specs.ReadCauses.{cursor_in}
 use Rattle.mg_players.specs.Gets.{GetTask, chunks_find, no_manner}
-use Rattle.mg_players.specs.InTurn.{AreInTurn, empty_by, empty_held, empty_taken, newest}
+use Rattle.mg_players.specs.InTurn.{AloneBehind, AreInTurn, HasSentAt, NoneBehind, empty_by, empty_held, empty_taken, newest}
 
 -- ---- chunks that are not what their record says
 
@@ -116,18 +116,19 @@ HeardHeld past g f c = (bytes : List ℕ) → c.doing ≡ holds bytes → HeardB
 
 -- ---- batches that came empty
 
--- In a call of a get as many batches came empty, one behind another, as are too many: those of replies that the call heard to its getMores, and before them that of
--- a first reply to the list of the chunks, which was in hand.
+-- In a call of a get as many batches came empty, one behind another up to its last command, as are too many: those of replies that the call heard to its getMores,
+-- and before them that of a first reply to the list of the chunks, which was in hand.
 pub record HeardEmpty (past call : Past) (g : GetTask) (f : FileRecord) : Type 0 where
   pub begun : ClientCursor
   pub held : HeardHeld past g f begun
   pub replies : List (ℕ × List ℕ)
   pub behind : ClientCursor
   pub heard : AreInTurn call begun 0 replies behind
+  pub last : NoneBehind call (newest 0 replies)
   pub so_many : empty_by (empty_held begun.doing) replies ≡ most_empty
 
--- What a call knows of them that began with a cursor and goes on: so many came empty, one behind another, which are not too many; and its getMore on its way stands in the log
--- behind all replies.
+-- What a call knows of them that began with a cursor and goes on: so many came empty, one behind another, which are not too many; and behind all replies nothing of it stands in
+-- the log but its getMore on its way.
 pub record CountsRow (awaited : Awaited) (call : Past) (begun c : ClientCursor) (empty : ℕ) : Type 0 where
   pub replies : List (ℕ × List ℕ)
   pub heard : AreInTurn call begun 0 replies (at_rest c)
@@ -136,10 +137,15 @@ pub record CountsRow (awaited : Awaited) (call : Past) (begun c : ClientCursor) 
   pub few : empty < most_empty
   pub within : newest 0 replies < length call.calls
   pub waits : (sending : Sending) (ticket place : ℕ) → c.doing ≡ client.asks sending → ticket_of sending ≡ Some ticket → awaited ticket ≡ Some place → newest 0 replies < place
+  pub alone : AloneBehind awaited call c (newest 0 replies)
 
--- where a read goes on
+-- a call that has sent nothing
+abbrev pub SentNone : Past → Type 0
+SentNone call = (place : ℕ) → HasSentAt call place → ⊥
+
+-- where a read goes on; before it begins its call has sent nothing
 abbrev pub CountsIn : Awaited → (past call : Past) → GetTask → FileRecord → Doing → Type 0
-CountsIn awaited past call g f (idle cursor) = Unit {0}
+CountsIn awaited past call g f (idle cursor) = SentNone call
 CountsIn awaited past call g f (reads cursor missing empty) = (begun : ClientCursor) × HeardHeld past g f begun × CountsRow awaited call begun cursor empty
 CountsIn awaited past call g f ended = Unit {0}
 CountsIn awaited past call g f spoiled = Unit {0}

@@ -296,9 +296,14 @@ pub record GetTurns (old new : Awaited) (log log' : LogTold) (wire : ℤ) (p p' 
 
 -- ---- puts
 
--- such commands a put sent at all its places
+-- the commands of the calls before stand in the log before those of the one that goes on
+abbrev pub CallsFollow : Places → Type 0
+CallsFollow q = (k m : ℕ) → IsOf (q.opened ++ concat q.owns) k → IsOf q.now m → k < m
+
+-- such commands a put sent at all its places, call by call
 pub record PutSaid (calls : List Call) (q : Places) (sent : List Fields → Type 0) : Type 0 where
   pub within : AreInLog (length calls) (all_places q)
+  pub ordered : CallsFollow q
   pub sends : sent (commands_at calls (all_places q))
 
 -- a put whose upload is open: each piece that is written was written by a call of its own, its call that goes on has sent what stands at the places of that and
@@ -315,7 +320,7 @@ pub record PutTellsOpen (awaited : Awaited) (calls : List Call) (wire : ℤ) (q 
   pub its : AnswersPut t (upload_error u)
   pub reads : PutReads awaited (sent_at q.now calls wire) (put_bucket t) u.doing
   pub knows : KnowsUpload awaited (sent_at (all_places q) calls wire) t.at u (taken_in u.doing t.pieces done)
-  pub said : PutSaid calls q (λ commands. DoingSent supply t commands u.checked u.sent u.doing)
+  pub said : PutSaid calls q (λ commands. DoingSent supply t (sent_at (all_places q) calls wire) (sent_at q.now calls wire) commands u.checked u.sent u.doing)
   pub lays : DoingLays (sent_at (all_places q) calls wire) t u.doing
 
 -- it has sent nothing
@@ -327,7 +332,7 @@ abbrev pub PutTells : Awaited → List Call → ℤ → Places → Supply → Pu
 PutTells awaited calls wire q supply t done puts.Undrawn = SentNothing q × (done ≡ 0)
 PutTells awaited calls wire q supply t done (puts.Begins begun) = SentNothing q × (done ≡ 0) × BegunFor supply t begun
 PutTells awaited calls wire q supply t done (puts.Goes going) = PutTellsOpen awaited calls wire q supply t (ids_left going.ids) done (upload_of going.upload) × (going.length ≡ total t.pieces)
-PutTells awaited calls wire q supply t done (puts.Ended end) = (q.opened ≡ []) × (length q.owns ≡ done) × PutEndsBy (sent_at (all_places q) calls wire) (sent_at q.now calls wire) t end × HasWritten t done end × PutSaid calls q (λ commands. PutEndsSent supply t (sent_at q.now calls wire) commands end) × EndLays (sent_at (all_places q) calls wire) t
+PutTells awaited calls wire q supply t done (puts.Ended end) = (q.opened ≡ []) × (length q.owns ≡ done) × PutEndsBy (sent_at (all_places q) calls wire) (sent_at q.now calls wire) t end × HasWritten t done end × PutSaid calls q (λ commands. PutEndsSent supply t (sent_at (all_places q) calls wire) (sent_at q.now calls wire) commands end) × EndLays (sent_at (all_places q) calls wire) t
 
 -- the number of what goes on: how many turns that did not pend come before it
 abbrev pub put_number : ℕ → PutStage → ℕ
