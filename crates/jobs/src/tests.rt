@@ -10,7 +10,7 @@ mod scripted;
 mod streams;
 mod watches;
 
-use layers::{insert, json_value};
+use layers::json_value;
 use mg_bson::{Bson, Document};
 use mg_link::{Action, ClientSession, Error, ErrorKind, Exec, Step, plain};
 use mg_ops::{Operation, encode};

@@ -6,6 +6,6 @@ mod samples;
 mod tests;
 
 pub use samples::{
-    bytes_at, collection, document_word, find, insert, json_bytes, json_value, namespace,
-    one_field, parted, repeated, text, with, with_text,
+    bytes_at, collection, document_word, find, insert, json_bytes, json_value, named, namespace,
+    one_field, owned, parted, repeated, text, with, with_text, written,
 };

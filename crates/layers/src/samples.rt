@@ -31,25 +31,40 @@ pub fn repeated(
     Ok(text)
 }
 
+/// A text that its caller owns.
+pub fn owned(alloc: Global, text: &str) -> Result<String, Error> {
+    Ok(String::from_str(alloc, text)?)
+}
+
+/// A text that was formatted. A caller that ends with it lets go of what it holds once.
+pub fn written(text: Result<String, AllocError>) -> Result<String, Error> {
+    Ok(text?)
+}
+
 /// A text as a value.
-pub fn text(alloc: Global, text: &str) -> Result<Bson, AllocError> {
+pub fn text(alloc: Global, text: &str) -> Result<Bson, Error> {
     Ok(Bson::String(String::from_str(alloc, text)?))
 }
 
-/// A collection of the database `db`.
-pub fn collection(alloc: Global, coll: &str) -> Result<Namespace, AllocError> {
-    let db = String::from_str(alloc, "db")?;
+/// A collection of a database.
+pub fn named(alloc: Global, db: &str, coll: &str) -> Result<Namespace, Error> {
+    let db = String::from_str(alloc, db)?;
     let coll = String::from_str(alloc, coll)?;
     Ok(Namespace { db, coll })
 }
 
+/// A collection of the database `db`.
+pub fn collection(alloc: Global, coll: &str) -> Result<Namespace, Error> {
+    named(alloc, "db", coll)
+}
+
 /// The namespace `db.coll`.
-pub fn namespace(alloc: Global) -> Result<Namespace, AllocError> {
+pub fn namespace(alloc: Global) -> Result<Namespace, Error> {
     collection(alloc, "coll")
 }
 
 /// An insert into a collection.
-pub fn insert(alloc: Global, coll: &str, documents: Vec<Document>) -> Result<Insert, AllocError> {
+pub fn insert(alloc: Global, coll: &str, documents: Vec<Document>) -> Result<Insert, Error> {
     Ok(Insert {
         ns: collection(alloc, coll)?,
         documents,
@@ -63,7 +78,7 @@ pub fn find(
     coll: &str,
     filter: Document,
     options: FindOptions,
-) -> Result<Find, AllocError> {
+) -> Result<Find, Error> {
     Ok(Find {
         ns: collection(alloc, coll)?,
         filter,
@@ -72,14 +87,14 @@ pub fn find(
 }
 
 /// The document of one field.
-pub fn one_field(alloc: Global, name: &str, value: Bson) -> Result<Document, BsonError> {
+pub fn one_field(alloc: Global, name: &str, value: Bson) -> Result<Document, Error> {
     let mut document = Document::new(alloc);
     document.append(name, value)?;
     Ok(document)
 }
 
 /// The document with one field more. It takes the document whole, so that its caller holds none where this fails.
-pub fn with(document: Document, name: &str, value: Bson) -> Result<Document, BsonError> {
+pub fn with(document: Document, name: &str, value: Bson) -> Result<Document, Error> {
     let mut document = document;
     document.append(name, value)?;
     Ok(document)
@@ -90,10 +105,9 @@ pub fn with_text(
     alloc: Global,
     document: Document,
     name: &str,
-    text: &str,
-) -> Result<Document, BsonError> {
-    let text = String::from_str(alloc, text)?;
-    with(document, name, Bson::String(text))
+    value: &str,
+) -> Result<Document, Error> {
+    with(document, name, text(alloc, value)?)
 }
 
 /// The value that a JSON text stands for. The fields of a document are in the order of their names.
@@ -127,5 +141,5 @@ pub fn bytes_at(alloc: Global, digits: &str) -> Result<Vec<u8>, Error> {
 pub fn document_word(alloc: Global, document: RawDocument<'_>) -> Result<String, Error> {
     let value = Bson::Document(to_document(alloc, document)?);
     let json = json_text(alloc, &value)?;
-    Ok(format!(in alloc; "/{json}")?)
+    written(format!(in alloc; "/{json}"))
 }

@@ -9,7 +9,6 @@ mod json;
 mod limits;
 mod link;
 mod mem_link;
-mod operations;
 mod options;
 mod queries;
 mod read_raw;

@@ -3,10 +3,10 @@ ghost use Rattle.mg_link.specs.Acts.{IsOut};
 ghost use Rattle.mg_link.specs.Places.{out_at};
 
 use super::scripted::{
-    advance_word, command_words, end_word, error_word, lent_word, link_of, reply_at,
+    advance_word, command_words, end_word, error_word, lent_word, link_of, reply_at, unanswered,
 };
 use super::{Subject, are_found, documents_of, empty_link, expect, given};
-use layers::{document_word, find, insert, json_bytes, one_field, repeated};
+use layers::{document_word, find, insert, json_bytes, one_field, owned, repeated, written};
 use mg_bson::{Bson, Document, RawDocument};
 use mg_cursor::{
     AdvancePoll, Cursor, ItemPoll, NewCursor, NextPoll, RawBatch, RawBatchCursor, SessionCursor,
@@ -52,29 +52,29 @@ fn specification(alloc: Global, first: &str) -> Result<CursorSpecification, Erro
 
 // ---- what calls come to
 
-fn item_word(alloc: Global, poll: &ItemPoll) -> Result<String, Error> {
+fn item_word(alloc: Global, poll: ItemPoll) -> Result<String, Error> {
     let word = match poll {
         ItemPoll::Pending => "/pending",
         ItemPoll::Item(document) => return document_word(alloc, document.as_raw()),
         ItemPoll::End => "/end",
-        ItemPoll::Failed(error) => return error_word(alloc, error),
+        ItemPoll::Failed(error) => return error_word(alloc, &error),
     };
-    Ok(String::from_str(alloc, word)?)
+    owned(alloc, word)
 }
 
 // What a call that seeks a document came to: the one that is lent then.
 fn seek_word(
     alloc: Global,
-    poll: &AdvancePoll,
+    poll: AdvancePoll,
     lent: Option<RawDocument<'_>>,
 ) -> Result<String, Error> {
     let word = match poll {
         AdvancePoll::Pending => "/pending",
         AdvancePoll::Ready(true) => return lent_word(alloc, lent),
         AdvancePoll::Ready(false) => "/end",
-        AdvancePoll::Failed(error) => return error_word(alloc, error),
+        AdvancePoll::Failed(error) => return error_word(alloc, &error),
     };
-    Ok(String::from_str(alloc, word)?)
+    owned(alloc, word)
 }
 
 // ---- runs
@@ -90,23 +90,14 @@ fn poll_word(
     ensures out { IsOut (out_at link.new.calls) (client_ticket cursor.new.cursor) }
 {
     match step {
-        b't' | b'p' => {
-            let poll = cursor.poll_try_advance(link);
-            advance_word(alloc, &poll, cursor.current())
-        }
-        b'a' => {
-            let poll = cursor.poll_advance(link);
-            seek_word(alloc, &poll, cursor.current())
-        }
-        b'n' => {
-            let poll = cursor.poll_next(link);
-            item_word(alloc, &poll)
-        }
+        b't' | b'p' => advance_word(alloc, cursor.poll_try_advance(link), cursor.current()),
+        b'a' => seek_word(alloc, cursor.poll_advance(link), cursor.current()),
+        b'n' => item_word(alloc, cursor.poll_next(link)),
         b'l' => {
             cursor.pin(3);
-            Ok(String::from_str(alloc, "/pinned")?)
+            owned(alloc, "/pinned")
         }
-        b'h' => Ok(format!(in alloc; "/{}", cursor.has_next())?),
+        b'h' => written(format!(in alloc; "/{}", cursor.has_next())),
         _ => lent_word(alloc, cursor.current()),
     }
 }
@@ -127,7 +118,7 @@ fn step_word(
             return Ok(word);
         }
     }
-    Ok(String::from_str(alloc, "/pending")?)
+    owned(alloc, "/pending")
 }
 
 // Takes the steps: what was answered.
@@ -151,12 +142,12 @@ fn steps_words(
 // A cursor with this first batch takes the steps over a link that is to be answered so, and is closed: what was answered, and
 // which commands were sent.
 fn run(alloc: Global, first: &str, script: &str, steps: &str, pend: u32) -> Result<String, Error> {
-    let mut link = link_of(alloc, REPLIES, script, pend)?;
+    let mut answered = link_of(alloc, REPLIES, script, pend)?;
     let mut cursor: Cursor<Document> = Cursor::new_cursor(alloc, specification(alloc, first)?);
-    let seen = steps_words(alloc, &mut cursor, &mut link, steps)?;
-    let closed = end_word(alloc, cursor.close().run(&mut link, 9))?;
-    let sent = command_words(alloc, &link)?;
-    Ok(format!(in alloc; "{seen}{closed}{sent}")?)
+    let seen = steps_words(alloc, &mut cursor, &mut answered.link, steps)?;
+    let closed = end_word(alloc, cursor.close().run(&mut answered.link, 9))?;
+    let sent = command_words(alloc, &answered.link)?;
+    written(format!(in alloc; "{seen}{closed}{sent}"))
 }
 
 /// Each line is the first batch of a cursor, how its commands are answered, its steps, and what comes of them.
@@ -195,7 +186,7 @@ impl Subject for Runs {
         if late == seen {
             Ok(seen)
         } else {
-            Ok(format!(in alloc; "{seen}, and late {late}")?)
+            written(format!(in alloc; "{seen}, and late {late}"))
         }
     }
 }
@@ -231,32 +222,30 @@ fn thousand_empty_batches(rt: HostRuntime) {
 // The first document, and what it is read as.
 fn read_word(alloc: Global, link: &mut ScriptLink) -> Result<String, Error> {
     let mut cursor: Cursor<Document> = Cursor::new_cursor(alloc, specification(alloc, "01")?);
-    let poll = cursor.poll_next(link);
-    let word = item_word(alloc, &poll)?;
-    match poll {
-        ItemPoll::Item(_) => {
+    match cursor.poll_next(link) {
+        ItemPoll::Item(copy) => {
             let document = cursor.deserialize_current()?;
-            Ok(format!(in alloc; "{word} {:?}", document.get_i32("x"))?)
+            let word = document_word(alloc, copy.as_raw())?;
+            written(format!(in alloc; "{word} {:?}", document.get_i32("x")))
         }
-        _ => Ok(word),
+        poll => item_word(alloc, poll),
     }
 }
 
 // Whether a batch, and a copy of it, hold a document.
-fn batch_word(alloc: Global, poll: &NextPoll) -> Result<String, Error> {
+fn batch_word(alloc: Global, poll: NextPoll) -> Result<String, Error> {
     match poll {
         NextPoll::Batch(batch) => {
             let copy = batch.clone()?;
-            Ok(format!(in alloc; "{} {}", batch.has_items(), copy.has_items())?)
+            written(format!(in alloc; "{} {}", batch.has_items(), copy.has_items()))
         }
-        _ => Ok(String::from_str(alloc, "none")?),
+        _ => owned(alloc, "none"),
     }
 }
 
 fn handed_out(alloc: Global, link: &mut ScriptLink) -> Result<String, Error> {
     let mut cursor = RawBatchCursor::new_cursor(alloc, specification(alloc, "01")?);
-    let poll = cursor.poll_next(link);
-    batch_word(alloc, &poll)
+    batch_word(alloc, cursor.poll_next(link))
 }
 
 fn handed_out_in(
@@ -265,8 +254,7 @@ fn handed_out_in(
     link: &mut ScriptLink,
 ) -> Result<String, Error> {
     let mut cursor = SessionRawBatchCursor::new_cursor(alloc, specification(alloc, "01")?);
-    let poll = cursor.stream(session).poll_next(link);
-    batch_word(alloc, &poll)
+    batch_word(alloc, cursor.stream(session).poll_next(link))
 }
 
 // What a call of a cursor in a session, or of its stream, comes to.
@@ -279,27 +267,20 @@ fn called_in(
     let opened = specification(alloc, "01")?;
     let mut cursor: SessionCursor<Document> = SessionCursor::new_cursor(alloc, opened);
     match call {
-        "advance" => {
-            let poll = cursor.poll_try_advance(session, link);
-            advance_word(alloc, &poll, cursor.current())
-        }
-        "seek" => {
-            let poll = cursor.poll_advance(session, link);
-            seek_word(alloc, &poll, cursor.current())
-        }
-        "copy" => {
-            let poll = cursor.poll_next(session, link);
-            item_word(alloc, &poll)
-        }
+        "advance" => advance_word(
+            alloc,
+            cursor.poll_try_advance(session, link),
+            cursor.current(),
+        ),
+        "seek" => seek_word(alloc, cursor.poll_advance(session, link), cursor.current()),
+        "copy" => item_word(alloc, cursor.poll_next(session, link)),
         "advance-stream" => {
             let mut stream = cursor.stream(session);
-            let poll = stream.poll_try_advance(link);
-            advance_word(alloc, &poll, stream.current())
+            advance_word(alloc, stream.poll_try_advance(link), stream.current())
         }
         _ => {
             let mut stream = cursor.stream(session);
-            let poll = stream.poll_advance(link);
-            seek_word(alloc, &poll, stream.current())
+            seek_word(alloc, stream.poll_advance(link), stream.current())
         }
     }
 }
@@ -318,13 +299,13 @@ struct Calls;
 
 impl Subject for Calls {
     fn found(alloc: Global, call: &str) -> Result<String, Error> {
-        let mut link = ScriptLink::new(Vec::new(alloc), 21);
+        let mut answered = unanswered(alloc);
         let mut session = ClientSession::new(one_field(alloc, "id", Bson::Int32(7))?);
         match call {
-            "read" => read_word(alloc, &mut link),
-            "batch" => handed_out(alloc, &mut link),
-            "batch-in" => handed_out_in(alloc, &mut session, &mut link),
-            _ => called_in(alloc, &mut session, &mut link, call),
+            "read" => read_word(alloc, &mut answered.link),
+            "batch" => handed_out(alloc, &mut answered.link),
+            "batch-in" => handed_out_in(alloc, &mut session, &mut answered.link),
+            _ => called_in(alloc, &mut session, &mut answered.link, call),
         }
     }
 }
@@ -343,7 +324,7 @@ const SIX: &str =
 fn sorted(alloc: Global) -> Result<Find, Error> {
     let by_id = one_field(alloc, "_id", Bson::Int32(1))?;
     let options = FindOptions::builder().batch_size(2).sort(by_id);
-    Ok(find(alloc, "coll", Document::new(alloc), options)?)
+    find(alloc, "coll", Document::new(alloc), options)
 }
 
 // The document of an `x`, without its id.
@@ -351,7 +332,7 @@ fn projected(alloc: Global) -> Result<Find, Error> {
     let projection = one_field(alloc, "_id", Bson::Int32(0))?;
     let filter = one_field(alloc, "x", Bson::Int32(1))?;
     let options = FindOptions::builder().projection(projection);
-    Ok(find(alloc, "coll", filter, options)?)
+    find(alloc, "coll", filter, options)
 }
 
 // The documents that a cursor gives, and its end.
@@ -364,8 +345,8 @@ fn given_by(
 {
     let mut seen = String::new(alloc);
     'documents: for _count in 0..7 {
-        let poll = cursor.poll_next(link);
-        seen.push_str(item_word(alloc, &poll)?.as_str())?;
+        let word = item_word(alloc, cursor.poll_next(link))?;
+        seen.push_str(word.as_str())?;
     }
     Ok(seen)
 }
@@ -382,8 +363,8 @@ fn given_in(
     let mut seen = String::new(alloc);
     let mut stream = cursor.stream(session);
     'documents: for _count in 0..7 {
-        let poll = stream.poll_next(link);
-        seen.push_str(item_word(alloc, &poll)?.as_str())?;
+        let word = item_word(alloc, stream.poll_next(link))?;
+        seen.push_str(word.as_str())?;
     }
     Ok(seen)
 }

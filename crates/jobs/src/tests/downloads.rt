@@ -5,13 +5,14 @@ ghost use Rattle.mg_gridfs.specs.Downloads.{download_ticket};
 ghost use Rattle.mg_gridfs.specs.DownloadView.{IsDownload, download_of};
 
 use super::files::{bucket, number_of, put_into, size_of, small};
+use super::scripted::error_word;
 use super::{Subject, are_found, empty_link, given};
-use layers::{insert, one_field, text, with};
+use layers::{insert, one_field, owned, text, with, written};
 use mg_bson::{Binary, Bson, DateTime, Document};
 use mg_gridfs::{GridFsDownloadStream, ReadPoll};
 use mg_link::{Action, Error, ErrorKind, Step, plain};
 use mg_store::MemLink;
-use std::alloc::{AllocError, Global};
+use std::alloc::Global;
 
 // Opens a download of the file of this id.
 fn open(alloc: Global, link: &mut MemLink, id: i32) -> Result<GridFsDownloadStream, Error>
@@ -30,9 +31,9 @@ fn open(alloc: Global, link: &mut MemLink, id: i32) -> Result<GridFsDownloadStre
 }
 
 // The bytes of a read, as a text.
-fn bytes_word(alloc: Global, bytes: &[u8]) -> Result<String, AllocError> {
+fn bytes_word(alloc: Global, bytes: &[u8]) -> Result<String, Error> {
     let text = std::str::from_utf8(bytes).unwrap_or("?");
-    format!(in alloc; "/{text}")
+    written(format!(in alloc; "/{text}"))
 }
 
 // One read into so much room, and whether it read nothing.
@@ -41,18 +42,23 @@ fn read_word(
     download: &mut GridFsDownloadStream,
     link: &mut MemLink,
     room: &mut [u8],
-) -> Result<(String, bool), AllocError>
+) -> Result<(String, bool), Error>
     requires out { IsOut (out_at link.old.calls) (download_ticket (download_of download.old)) }
     requires sound { IsDownload download.old }
     ensures out { IsOut (out_at link.new.calls) (download_ticket (download_of download.new)) }
     ensures sound { IsDownload download.new }
 {
-    match download.poll_read(link, room) {
-        ReadPoll::Pending => Ok((String::from_str(alloc, "/pending")?, false)),
-        ReadPoll::Read(0) => Ok((String::from_str(alloc, "/end")?, true)),
-        ReadPoll::Read(count) => Ok((bytes_word(alloc, &room[..count])?, false)),
-        ReadPoll::Failed(error) => Ok((format!(in alloc; "/{error}")?, false)),
-    }
+    let mut ended = false;
+    let word = match download.poll_read(link, room) {
+        ReadPoll::Pending => owned(alloc, "/pending"),
+        ReadPoll::Read(0) => {
+            ended = true;
+            owned(alloc, "/end")
+        }
+        ReadPoll::Read(count) => bytes_word(alloc, &room[..count]),
+        ReadPoll::Failed(error) => error_word(alloc, &error),
+    };
+    Ok((word?, ended))
 }
 
 // Reads up to the first read of nothing.
@@ -61,7 +67,7 @@ fn read_words(
     download: &mut GridFsDownloadStream,
     link: &mut MemLink,
     room: &mut [u8],
-) -> Result<String, AllocError>
+) -> Result<String, Error>
     requires out { IsOut (out_at link.old.calls) (download_ticket (download_of download.old)) }
     requires sound { IsDownload download.old }
 {
@@ -80,8 +86,8 @@ fn read_words(
 fn got(alloc: Global, link: &mut MemLink, id: i32, room: usize) -> Result<String, Error> {
     let mut room = vec![in alloc; 0u8; room]?;
     match open(alloc, link, id) {
-        Ok(mut download) => Ok(read_words(alloc, &mut download, link, &mut room)?),
-        Err(error) => Ok(format!(in alloc; "{error}")?),
+        Ok(mut download) => read_words(alloc, &mut download, link, &mut room),
+        Err(error) => written(format!(in alloc; "{error}")),
     }
 }
 
@@ -107,7 +113,7 @@ impl Subject for Gets {
         put_into(alloc, &mut link, size_of(size), pieces)?;
         let told = got(alloc, &mut link, 7, number_of(room).min(100) as usize)?;
         let commands = link.log().calls().len();
-        Ok(format!(in alloc; "{told} in {commands}")?)
+        written(format!(in alloc; "{told} in {commands}"))
     }
 }
 
@@ -125,7 +131,7 @@ fn record(alloc: Global, length: &str, size: &str) -> Result<Document, Error> {
     let record = with(record, "length", Bson::Int64(length))?;
     let size = i32::try_from(small(size)).unwrap_or(0);
     let record = with(record, "chunkSize", Bson::Int32(size))?;
-    Ok(with(record, "uploadDate", Bson::DateTime(DateTime { millis: 0 }))?)
+    with(record, "uploadDate", Bson::DateTime(DateTime { millis: 0 }))
 }
 
 // A chunk by its number and its bytes; behind a `t` the bytes are a text.
@@ -141,7 +147,7 @@ fn chunk(alloc: Global, word: &str) -> Result<Document, Error> {
     let chunk = one_field(alloc, "files_id", Bson::Int32(5))?;
     let number = i32::try_from(small(number)).unwrap_or(0);
     let chunk = with(chunk, "n", Bson::Int32(number))?;
-    Ok(with(chunk, "data", data)?)
+    with(chunk, "data", data)
 }
 
 // Each chunk has an `_id` of its own, by its place.
@@ -183,7 +189,7 @@ fn beside(alloc: Global) -> Result<String, Error> {
     put_into(alloc, &mut link, Some(4), "uvwxyz")?;
     let first = got(alloc, &mut link, 5, 16)?;
     let second = got(alloc, &mut link, 7, 16)?;
-    Ok(format!(in alloc; "{first} {second}")?)
+    written(format!(in alloc; "{first} {second}"))
 }
 
 /// Each line is the length of the file and the size of its chunks by its record, the chunks that are there, and what is read: into room
@@ -211,7 +217,7 @@ impl Subject for DifferingChunks {
         let (sizes, words) = line.split_once('|').unwrap_or((line, ""));
         let small_room = differing(alloc, sizes, words, 4)?;
         let large_room = differing(alloc, sizes, words, 16)?;
-        Ok(format!(in alloc; "{small_room} {large_room}")?)
+        written(format!(in alloc; "{small_room} {large_room}"))
     }
 }
 

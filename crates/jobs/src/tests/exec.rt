@@ -2,15 +2,15 @@ ghost use Rattle.mg_link.specs.Acts.{IsOut};
 ghost use Rattle.mg_link.specs.Exec.{ticket_of};
 ghost use Rattle.mg_link.specs.Places.{out_at};
 
-use super::scripted::{command_words, end_word, link_of, reply_bytes};
+use super::scripted::{command_words, end_word, link_of, reply_bytes, unanswered};
 use super::{Subject, are_found};
-use layers::one_field;
-use mg_bson::{Bson, BsonError, RawDocumentBuf, to_bytes};
+use layers::{json_bytes, written};
+use mg_bson::RawDocumentBuf;
 use mg_link::{Action, Error, ErrorKind, Exec, Retry, ScriptLink, Step, plain, verdict_of};
-use std::alloc::{AllocError, Global};
+use std::alloc::Global;
 
-fn ping(alloc: Global) -> Result<RawDocumentBuf, BsonError> {
-    to_bytes(alloc, &one_field(alloc, "ping", Bson::Int32(1))?)
+fn ping(alloc: Global) -> Result<RawDocumentBuf, Error> {
+    json_bytes(alloc, r#"{"ping":1}"#)
 }
 
 /// Each line is a word of a script, and what a command is answered there: a success, no `ok`, bytes that are no document, or a refusal by
@@ -66,11 +66,11 @@ impl Subject for Answers {
         } else {
             Retry::None
         };
-        let mut link = link_of(alloc, REPLIES, script, 0)?;
+        let mut answered = link_of(alloc, REPLIES, script, 0)?;
         let exec = Exec::start(ping(alloc)?, retry);
-        let came = end_word(alloc, exec.run(&mut link, 1))?;
-        let sent = command_words(alloc, &link)?;
-        Ok(format!(in alloc; "{came}{sent}")?)
+        let came = end_word(alloc, exec.run(&mut answered.link, 1))?;
+        let sent = command_words(alloc, &answered.link)?;
+        written(format!(in alloc; "{came}{sent}"))
     }
 }
 
@@ -87,8 +87,8 @@ fn polls_to_end(alloc: Global, exec: Exec, link: &mut ScriptLink) -> Result<Stri
     'polls: for count in 1..10 {
         match state.poll(link) {
             Step::Pending(next) => state = next,
-            Step::Done(_) => return Ok(format!(in alloc; "{count} polls/done")?),
-            Step::Failed(error) => return Ok(format!(in alloc; "{count} polls/{error}")?),
+            Step::Done(_) => return written(format!(in alloc; "{count} polls/done")),
+            Step::Failed(error) => return written(format!(in alloc; "{count} polls/{error}")),
         }
     }
     Err(plain(ErrorKind::Io))
@@ -100,7 +100,7 @@ fn pinged(alloc: Global, link: &mut ScriptLink) -> Result<String, Error> {
     let before = link.commands().len();
     let came = polls_to_end(alloc, exec, link)?;
     let sent = command_words(alloc, link)?;
-    Ok(format!(in alloc; "{before} before, {came}{sent}")?)
+    written(format!(in alloc; "{before} before, {came}{sent}"))
 }
 
 /// A link that answers so, where each answer pends twice, or that answers nothing.
@@ -112,9 +112,9 @@ struct Polls;
 impl Subject for Polls {
     fn found(alloc: Global, script: &str) -> Result<String, Error> {
         if script == "nothing" {
-            return pinged(alloc, &mut ScriptLink::new(Vec::new(alloc), 21));
+            return pinged(alloc, &mut unanswered(alloc).link);
         }
-        pinged(alloc, &mut link_of(alloc, REPLIES, script, 2)?)
+        pinged(alloc, &mut link_of(alloc, REPLIES, script, 2)?.link)
     }
 }
 
@@ -124,19 +124,19 @@ fn replies_that_pend(rt: HostRuntime) {
 }
 
 // What an error prints as, whether it has the label, how many it has, and its wire version.
-fn said_by(alloc: Global, error: &Error) -> Result<String, AllocError> {
+fn said_by(alloc: Global, error: &Error) -> Result<String, Error> {
     let is_labelled = error.contains_label("RetryableError");
     let labels = error.labels.as_slice().len();
-    format!(in alloc; "{error} {is_labelled} {labels} {:?}", error.wire_version)
+    written(format!(in alloc; "{error} {is_labelled} {labels} {:?}", error.wire_version))
 }
 
 struct Refusals;
 
 impl Subject for Refusals {
     fn found(alloc: Global, code: &str) -> Result<String, Error> {
-        let mut link = link_of(alloc, REPLIES, code, 0)?;
-        match Exec::start(ping(alloc)?, Retry::None).poll(&mut link) {
-            Step::Failed(error) => Ok(said_by(alloc, &error)?),
+        let mut answered = link_of(alloc, REPLIES, code, 0)?;
+        match Exec::start(ping(alloc)?, Retry::None).poll(&mut answered.link) {
+            Step::Failed(error) => said_by(alloc, &error),
             _ => Ok(String::new(alloc)),
         }
     }
@@ -162,7 +162,7 @@ struct Verdicts;
 impl Subject for Verdicts {
     fn found(alloc: Global, reply: &str) -> Result<String, Error> {
         let reply = RawDocumentBuf::from_bytes(reply_bytes(alloc, reply)?)?;
-        Ok(format!(in alloc; "{:?}", verdict_of(&reply.as_raw()))?)
+        written(format!(in alloc; "{:?}", verdict_of(&reply.as_raw())))
     }
 }
 

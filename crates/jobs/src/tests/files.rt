@@ -6,7 +6,7 @@ ghost use Rattle.mg_gridfs.specs.UploadView.{IsUpload, upload_of};
 
 use super::scripted::{command_words, error_word, link_of};
 use super::{Subject, are_found, empty_link};
-use layers::{collection, parted, repeated};
+use layers::{collection, owned, parted, repeated, written};
 use mg_bson::{Bson, DateTime, RawDocument};
 use mg_gridfs::{DatabaseDefaults, GridFsBucket, GridFsUploadStream, Step2, WritePoll};
 use mg_link::{CountedIds, Error, ErrorKind, ScriptLink, plain};
@@ -67,7 +67,7 @@ struct Chunks;
 impl Subject for Chunks {
     fn found(alloc: Global, question: &str) -> Result<String, Error> {
         let answer = answer_of(question)?;
-        Ok(format!(in alloc; "{answer}")?)
+        written(format!(in alloc; "{answer}"))
     }
 }
 
@@ -118,25 +118,25 @@ fn opened(
     }
 }
 
-fn write_word(alloc: Global, poll: &WritePoll) -> Result<String, Error> {
+fn write_word(alloc: Global, poll: WritePoll) -> Result<String, Error> {
     match poll {
-        WritePoll::Pending => Ok(String::from_str(alloc, "/pending")?),
-        WritePoll::Wrote(n) => Ok(format!(in alloc; "/wrote {n}")?),
-        WritePoll::Failed(error) => error_word(alloc, error),
+        WritePoll::Pending => owned(alloc, "/pending"),
+        WritePoll::Wrote(n) => written(format!(in alloc; "/wrote {n}")),
+        WritePoll::Failed(error) => error_word(alloc, &error),
     }
 }
 
-fn step2_word(alloc: Global, poll: &Step2) -> Result<String, Error> {
+fn step2_word(alloc: Global, poll: Step2) -> Result<String, Error> {
     match poll {
-        Step2::Pending => Ok(String::from_str(alloc, "/pending")?),
-        Step2::Done => Ok(String::from_str(alloc, "/done")?),
-        Step2::Failed(error) => error_word(alloc, error),
+        Step2::Pending => owned(alloc, "/pending"),
+        Step2::Done => owned(alloc, "/done"),
+        Step2::Failed(error) => error_word(alloc, &error),
     }
 }
 
 fn flush_word(alloc: Global, upload: &GridFsUploadStream) -> Result<String, Error> {
     match upload.poll_flush() {
-        Ok(()) => Ok(String::from_str(alloc, "/open")?),
+        Ok(()) => owned(alloc, "/open"),
         Err(error) => error_word(alloc, &error),
     }
 }
@@ -157,18 +157,11 @@ fn step_word(
     let piece = match step {
         b'w' => "abcde",
         b's' => "f",
-        b'c' => {
-            let poll = upload.poll_close(link, ids, DateTime { millis: 9 });
-            return step2_word(alloc, &poll);
-        }
-        b'a' => {
-            let poll = upload.poll_abort(link);
-            return step2_word(alloc, &poll);
-        }
+        b'c' => return step2_word(alloc, upload.poll_close(link, ids, DateTime { millis: 9 })),
+        b'a' => return step2_word(alloc, upload.poll_abort(link)),
         _ => return flush_word(alloc, upload),
     };
-    let poll = upload.poll_write(link, ids, piece.as_bytes());
-    write_word(alloc, &poll)
+    write_word(alloc, upload.poll_write(link, ids, piece.as_bytes()))
 }
 
 // Takes the steps: what was answered.
@@ -216,12 +209,12 @@ impl Subject for Uploads {
     // An upload in chunks of 4 bytes takes the steps: what was answered, and which commands were sent.
     fn found(alloc: Global, line: &str) -> Result<String, Error> {
         let (script, steps) = line.split_once('|').unwrap_or((line, ""));
-        let mut link = link_of(alloc, REPLIES, script, 0)?;
+        let mut answered = link_of(alloc, REPLIES, script, 0)?;
         let mut ids = CountedIds::new([0, 0, 0, 0]);
         let mut upload = opened(alloc, &mut ids, Some(4))?;
-        let seen = steps_words(alloc, &mut upload, &mut link, &mut ids, steps)?;
-        let sent = command_words(alloc, &link)?;
-        Ok(format!(in alloc; "{seen}{sent}")?)
+        let seen = steps_words(alloc, &mut upload, &mut answered.link, &mut ids, steps)?;
+        let sent = command_words(alloc, &answered.link)?;
+        written(format!(in alloc; "{seen}{sent}"))
     }
 }
 
@@ -306,7 +299,7 @@ fn stored(alloc: Global, link: &MemLink) -> Result<String, Error> {
     let chunks = lengths(alloc, link, "fs.chunks")?;
     let records = lengths(alloc, link, "fs.files")?;
     let commands = link.log().calls().len();
-    Ok(format!(in alloc; "{chunks}{records} in {commands}")?)
+    written(format!(in alloc; "{chunks}{records} in {commands}"))
 }
 
 // Puts a file of these pieces.
@@ -361,14 +354,14 @@ struct Long;
 impl Subject for Long {
     // A write of so many chunks: what it came to, and which commands were sent.
     fn found(alloc: Global, count: &str) -> Result<String, Error> {
-        let mut link = link_of(alloc, REPLIES, "r 1 1", 0)?;
+        let mut answered = link_of(alloc, REPLIES, "r 1 1", 0)?;
         let mut ids = CountedIds::new([0, 0, 0, 0]);
         let mut upload = opened(alloc, &mut ids, Some(1))?;
         let piece = repeated(alloc, "", "z", small(count), "")?;
-        let poll = upload.poll_write(&mut link, &mut ids, piece.as_bytes());
-        let told = write_word(alloc, &poll)?;
-        let sent = command_words(alloc, &link)?;
-        Ok(format!(in alloc; "{told}{sent}")?)
+        let poll = upload.poll_write(&mut answered.link, &mut ids, piece.as_bytes());
+        let told = write_word(alloc, poll)?;
+        let sent = command_words(alloc, &answered.link)?;
+        written(format!(in alloc; "{told}{sent}"))
     }
 }
 

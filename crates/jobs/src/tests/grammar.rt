@@ -1,5 +1,5 @@
 use super::{Subject, are_found};
-use layers::{parted, repeated};
+use layers::{owned, parted, repeated, written};
 use mg_jobs::{ScriptError, json_text, parse_script, value_from_json};
 use mg_link::Error;
 use serde_json::Value;
@@ -94,13 +94,13 @@ impl Subject for ScriptValues {
     /// What a JSON text stands for: the kind and the printed value, parted by `~`, or `refused`.
     fn found(alloc: Global, json: &str) -> Result<String, Error> {
         let Ok(json) = Value::from_slice(alloc, json.as_bytes()) else {
-            return Ok(String::from_str(alloc, "not json")?);
+            return owned(alloc, "not json");
         };
         let Some(value) = value_from_json(alloc, &json)? else {
-            return Ok(String::from_str(alloc, "refused")?);
+            return owned(alloc, "refused");
         };
         let printed = json_text(alloc, &value)?;
-        Ok(format!(in alloc; "{:?}~{printed}", value.kind())?)
+        written(format!(in alloc; "{:?}~{printed}", value.kind()))
     }
 }
 
@@ -275,8 +275,8 @@ null~fate 1
 /// The place of the first fault of a script, or `taken` where it has none.
 fn place_of(alloc: Global, script: &str) -> Result<String, Error> {
     match parse_script(alloc, script.as_bytes()) {
-        Ok(_) => Ok(String::from_str(alloc, "taken")?),
-        Err(ScriptError::Fault(place)) => Ok(format!(in alloc; "{place}")?),
+        Ok(_) => owned(alloc, "taken"),
+        Err(ScriptError::Fault(place)) => written(format!(in alloc; "{place}")),
         Err(ScriptError::OutOfMemory) => Err(Error::from(AllocError)),
     }
 }

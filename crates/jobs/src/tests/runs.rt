@@ -1,4 +1,5 @@
 use super::{Subject, are_found, expect};
+use layers::written;
 use mg_jobs::{MemSink, MemSource, run_program};
 use mg_link::Error;
 use std::alloc::{AllocError, Global};
@@ -96,7 +97,7 @@ impl Subject for Lengths {
         let mut source = MemSource::new(spaces, 4096, Vec::new(alloc));
         let mut sink = MemSink::new(alloc, 4096, Vec::new(alloc));
         let status = run_program(alloc, words.as_slice(), &mut source, &mut sink).status;
-        Ok(format!(in alloc; "{status} {:?}", std::str::from_utf8(sink.bytes()))?)
+        written(format!(in alloc; "{status} {:?}", std::str::from_utf8(sink.bytes())))
     }
 }
 
@@ -170,7 +171,7 @@ impl Subject for Script {
     // The status and the lines of a script.
     fn found(alloc: Global, script: &str) -> Result<String, Error> {
         let outcome = outcome_of(alloc, "run", "", "", script)?;
-        Ok(outcome.replace(alloc, "\n", "|")?)
+        written(outcome.replace(alloc, "\n", "|"))
     }
 }
 

@@ -1,4 +1,4 @@
-use layers::{bytes_at, document_word, json_bytes, parted};
+use layers::{bytes_at, document_word, json_bytes, owned, parted, written};
 use mg_bson::{RawDocument, RawValue};
 use mg_change::EventPoll;
 use mg_cursor::{AdvanceResult, TryPoll};
@@ -37,6 +37,19 @@ fn seen_of(alloc: Global, reply: &str) -> Result<ScriptedSeen, Error> {
     }
 }
 
+/// A link whose commands are answered by a script.
+pub(super) struct Answered {
+    /// The link.
+    pub(super) link: ScriptLink,
+}
+
+// Written out, so that letting one go is one call and not a case for each part.
+impl Drop for Answered {
+    fn drop(self) {
+        let Answered { link: _ } = self;
+    }
+}
+
 /// A link whose commands are answered by the words of a script, each as a table of replies says. Each answer pends so often,
 /// and one with a `+` behind its word once more.
 pub(super) fn link_of(
@@ -44,7 +57,7 @@ pub(super) fn link_of(
     replies: &str,
     script: &str,
     pend: u32,
-) -> Result<ScriptLink, Error> {
+) -> Result<Answered, Error> {
     let mut list = Vec::new(alloc);
     for word in script.split(' ') {
         let (word, more) = match word.split_once('+') {
@@ -57,7 +70,14 @@ pub(super) fn link_of(
             seen,
         })?;
     }
-    Ok(ScriptLink::new(list, 21))
+    let link = ScriptLink::new(list, 21);
+    Ok(Answered { link })
+}
+
+/// A link that answers nothing.
+pub(super) fn unanswered(alloc: Global) -> Answered {
+    let link = ScriptLink::new(Vec::new(alloc), 21);
+    Answered { link }
 }
 
 // ---- commands
@@ -83,7 +103,7 @@ fn subject_of<'a>(command: &RawDocument<'a>, named: RawValue<'a>) -> RawValue<'a
 // A number of 64 bits as its digits, and another value as its JSON text.
 fn value_word(alloc: Global, value: &RawValue<'_>) -> Result<String, Error> {
     match value.as_i64() {
-        Some(n) => Ok(format!(in alloc; "{n}")?),
+        Some(n) => written(format!(in alloc; "{n}")),
         None => json_text(alloc, &value.to_value(alloc)?),
     }
 }
@@ -99,7 +119,7 @@ fn command_word(alloc: Global, command: &RawDocument<'_>) -> Result<String, Erro
     } else {
         ""
     };
-    Ok(format!(in alloc; "/{name} {subject}{session}")?)
+    written(format!(in alloc; "/{name} {subject}{session}"))
 }
 
 /// Which commands were sent.
@@ -116,21 +136,21 @@ pub(super) fn command_words(alloc: Global, link: &ScriptLink) -> Result<String, 
 
 /// What an error prints as.
 pub(super) fn error_word(alloc: Global, error: &Error) -> Result<String, Error> {
-    Ok(format!(in alloc; "/{error}")?)
+    written(format!(in alloc; "/{error}"))
 }
 
 /// The document that is lent.
 pub(super) fn lent_word(alloc: Global, lent: Option<RawDocument<'_>>) -> Result<String, Error> {
     match lent {
         Some(document) => document_word(alloc, document),
-        None => Ok(String::from_str(alloc, "/none")?),
+        None => owned(alloc, "/none"),
     }
 }
 
 /// What an advance came to: the document that is lent then.
 pub(super) fn advance_word(
     alloc: Global,
-    poll: &TryPoll,
+    poll: TryPoll,
     lent: Option<RawDocument<'_>>,
 ) -> Result<String, Error> {
     let word = match poll {
@@ -138,27 +158,27 @@ pub(super) fn advance_word(
         TryPoll::Ready(AdvanceResult::Advanced(())) => return lent_word(alloc, lent),
         TryPoll::Ready(AdvanceResult::Exhausted) => "/end",
         TryPoll::Ready(AdvanceResult::Waiting) => "/waiting",
-        TryPoll::Failed(error) => return error_word(alloc, error),
+        TryPoll::Failed(error) => return error_word(alloc, &error),
     };
-    Ok(String::from_str(alloc, word)?)
+    owned(alloc, word)
 }
 
 /// What a call for a copy of the next event came to.
-pub(super) fn event_word(alloc: Global, poll: &EventPoll) -> Result<String, Error> {
+pub(super) fn event_word(alloc: Global, poll: EventPoll) -> Result<String, Error> {
     let word = match poll {
         EventPoll::Pending => "/pending",
         EventPoll::Ready(None) => "/nothing",
         EventPoll::Ready(Some(event)) => return document_word(alloc, event.as_raw()),
-        EventPoll::Failed(error) => return error_word(alloc, error),
+        EventPoll::Failed(error) => return error_word(alloc, &error),
     };
-    Ok(String::from_str(alloc, word)?)
+    owned(alloc, word)
 }
 
 /// How an action without output, or whose output nobody looks at, has ended.
 pub(super) fn end_word<S: Drop, T: Drop>(alloc: Global, step: Step<S, T>) -> Result<String, Error> {
     match step {
-        Step::Pending(_) => Ok(String::from_str(alloc, "/pending")?),
-        Step::Done(_) => Ok(String::from_str(alloc, "/done")?),
+        Step::Pending(_) => owned(alloc, "/pending"),
+        Step::Done(_) => owned(alloc, "/done"),
         Step::Failed(error) => error_word(alloc, &error),
     }
 }

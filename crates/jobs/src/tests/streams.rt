@@ -8,7 +8,7 @@ ghost use Rattle.mg_change.specs.StreamView.{IsPlainStream, stream_of};
 use super::scripted::{advance_word, command_words, end_word, event_word, link_of};
 use super::watches::args_of;
 use super::{Subject, are_found, expect};
-use layers::repeated;
+use layers::{owned, repeated, written};
 use mg_bson::{Bson, Document, Timestamp};
 use mg_change::{ChangeStream, Closing, Opening};
 use mg_jobs::json_text;
@@ -36,11 +36,11 @@ g. {"code":43,"ok":0}"#;
 
 fn token_word(alloc: Global, token: Option<TokenRef<'_>>) -> Result<String, Error> {
     let Some(token) = token else {
-        return Ok(String::from_str(alloc, "/no token")?);
+        return owned(alloc, "/no token");
     };
     let value = token.to_owned()?.to_value()?;
     let json = json_text(alloc, &value)?;
-    Ok(format!(in alloc; "/token {json}")?)
+    written(format!(in alloc; "/token {json}"))
 }
 
 fn options_of(start: &str) -> Result<ChangeStreamOptions, Error> {
@@ -85,16 +85,12 @@ fn poll_word(
     ensures out { IsOut (out_at link.new.calls) (stream_ticket (stream_of stream.new)) }
     ensures sound { IsPlainStream stream.new }
 {
-    let poll = match step {
-        b't' => return token_word(alloc, stream.resume_token()),
-        b'a' => {
-            let poll = stream.poll_advance_if_any(link);
-            return advance_word(alloc, &poll, stream.current());
-        }
-        b'n' => stream.poll_next(link),
-        _ => stream.poll_next_if_any(link),
-    };
-    event_word(alloc, &poll)
+    match step {
+        b't' => token_word(alloc, stream.resume_token()),
+        b'a' => advance_word(alloc, stream.poll_advance_if_any(link), stream.current()),
+        b'n' => event_word(alloc, stream.poll_next(link)),
+        _ => event_word(alloc, stream.poll_next_if_any(link)),
+    }
 }
 
 // A poll where the step is a `p`, and otherwise polls to the end.
@@ -115,7 +111,7 @@ fn step_word(
             return Ok(word);
         }
     }
-    Ok(String::from_str(alloc, "/pending")?)
+    owned(alloc, "/pending")
 }
 
 // Takes the steps: what was answered.
@@ -149,15 +145,15 @@ fn answers(
     let mut stream = open(Opening::new(alloc, args), link)?;
     let seen = steps_words(alloc, &mut stream, link, steps)?;
     let closed = end_word(alloc, stream.close().run(link, 9))?;
-    Ok(format!(in alloc; "{seen}{closed}")?)
+    written(format!(in alloc; "{seen}{closed}"))
 }
 
 // The same over a link that is to be answered so, and which commands were sent.
 fn run(alloc: Global, start: &str, script: &str, steps: &str, pend: u32) -> Result<String, Error> {
-    let mut link = link_of(alloc, REPLIES, script, pend)?;
-    let seen = answers(alloc, &mut link, start, steps)?;
-    let sent = command_words(alloc, &link)?;
-    Ok(format!(in alloc; "{seen}{sent}")?)
+    let mut answered = link_of(alloc, REPLIES, script, pend)?;
+    let seen = answers(alloc, &mut answered.link, start, steps)?;
+    let sent = command_words(alloc, &answered.link)?;
+    written(format!(in alloc; "{seen}{sent}"))
 }
 
 /// Each line is where a stream starts, how its commands are answered, its steps, and what comes of them.
@@ -206,7 +202,7 @@ impl Subject for Runs {
         if late == seen {
             Ok(seen)
         } else {
-            Ok(format!(in alloc; "{seen}, and late {late}")?)
+            written(format!(in alloc; "{seen}, and late {late}"))
         }
     }
 }
@@ -254,7 +250,7 @@ fn handed_words(alloc: Global, closing: Closing) -> Result<String, Error> {
         None => token_word(alloc, None)?,
     };
     let left = token_word(alloc, closing.resume_token())?;
-    Ok(format!(in alloc; "{lent}{handed}{left}")?)
+    written(format!(in alloc; "{lent}{handed}{left}"))
 }
 
 /// A look at the token, a copy of the event and the event lent, of a stream whose opening gave an event, and what comes of
@@ -267,12 +263,12 @@ struct Handed;
 
 impl Subject for Handed {
     fn found(alloc: Global, steps: &str) -> Result<String, Error> {
-        let mut link = link_of(alloc, REPLIES, "1e", 0)?;
+        let mut answered = link_of(alloc, REPLIES, "1e", 0)?;
         let args = args_of(alloc, "collection", ChangeStreamOptions::builder())?;
-        let mut stream = open(Opening::new(alloc, args), &mut link)?;
-        let seen = steps_words(alloc, &mut stream, &mut link, steps)?;
+        let mut stream = open(Opening::new(alloc, args), &mut answered.link)?;
+        let seen = steps_words(alloc, &mut stream, &mut answered.link, steps)?;
         let words = handed_words(alloc, stream.close())?;
-        Ok(format!(in alloc; "{seen}{words}")?)
+        written(format!(in alloc; "{seen}{words}"))
     }
 }
 

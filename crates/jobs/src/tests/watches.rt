@@ -7,14 +7,14 @@ ghost use Rattle.mg_change.specs.StreamView.{IsPlainStream, IsSessionStream, ses
 
 use super::scripted::{advance_word, command_words, end_word, event_word, link_of};
 use super::{Subject, are_found, empty_link};
-use layers::{json_value, namespace, one_field, text, with, with_text};
+use layers::{json_value, namespace, one_field, owned, text, with, with_text, written};
 use mg_bson::{Bson, Document, RawDocumentBuf, to_bytes};
 use mg_change::{ChangeStream, Opening, SessionChangeStream, SessionOpening};
 use mg_link::{Action, ClientSession, Error, ErrorKind, OperationTarget, ScriptLink, Step, plain};
 use mg_ops::WatchArgs;
 use mg_options::{ChangeStreamOptions, ResumeToken};
 use mg_store::{MemLink, may_go_aside};
-use std::alloc::{AllocError, Global};
+use std::alloc::Global;
 
 // ---- streams over a store in memory
 
@@ -43,10 +43,10 @@ fn insert_and_drop(alloc: Global, link: &mut MemLink) -> Result<(), Error>
 }
 
 // The collection, its database or the cluster.
-fn target_of(alloc: Global, on: &str) -> Result<OperationTarget, AllocError> {
+fn target_of(alloc: Global, on: &str) -> Result<OperationTarget, Error> {
     match on {
         "collection" => Ok(OperationTarget::Collection(namespace(alloc)?)),
-        "database" => Ok(OperationTarget::Database(String::from_str(alloc, "db")?)),
+        "database" => Ok(OperationTarget::Database(owned(alloc, "db")?)),
         _ => Ok(OperationTarget::Cluster),
     }
 }
@@ -56,7 +56,7 @@ pub(super) fn args_of(
     alloc: Global,
     on: &str,
     options: ChangeStreamOptions,
-) -> Result<WatchArgs, AllocError> {
+) -> Result<WatchArgs, Error> {
     Ok(WatchArgs {
         pipeline: Vec::new(alloc),
         target: target_of(alloc, on)?,
@@ -93,10 +93,9 @@ fn call_word(
     ensures out { IsOut (out_at link.new.calls) (stream_ticket (stream_of stream.new)) }
     ensures sound { IsPlainStream stream.new }
 {
-    let poll = stream.poll_next_if_any(link);
-    let word = event_word(alloc, &poll)?;
+    let word = event_word(alloc, stream.poll_next_if_any(link))?;
     let over = if stream.is_alive() { "" } else { "/over" };
-    Ok(format!(in alloc; "{word}{over}")?)
+    written(format!(in alloc; "{word}{over}"))
 }
 
 fn call_words(
@@ -138,7 +137,7 @@ impl Subject for Dropped {
         let seen = call_words(alloc, &mut stream, &mut link)?;
         let closed = end_word(alloc, stream.close().run(&mut link, 9))?;
         let count = link.log().calls().len();
-        Ok(format!(in alloc; "{seen}{closed} {count}")?)
+        written(format!(in alloc; "{seen}{closed} {count}"))
     }
 }
 
@@ -178,7 +177,7 @@ impl Subject for Behind {
             Step::Pending(_) => Err(plain(ErrorKind::Io)),
             Step::Done(stream) => {
                 let is_alive = stream.with_type::<RawDocumentBuf>().is_alive();
-                Ok(format!(in alloc; "{is_alive}")?)
+                written(format!(in alloc; "{is_alive}"))
             }
             Step::Failed(error) => Err(error),
         }
@@ -232,15 +231,15 @@ fn word_in(
     ensures out { IsOut (out_at link.new.calls) (stream_ticket (session_stream_of stream.new)) }
     ensures sound { IsSessionStream stream.new }
 {
-    let poll = match step {
-        b'a' => {
-            let poll = stream.poll_advance_if_any(session, link);
-            return advance_word(alloc, &poll, stream.current());
-        }
-        b'n' => stream.poll_next(session, link),
-        _ => stream.poll_next_if_any(session, link),
-    };
-    event_word(alloc, &poll)
+    match step {
+        b'a' => advance_word(
+            alloc,
+            stream.poll_advance_if_any(session, link),
+            stream.current(),
+        ),
+        b'n' => event_word(alloc, stream.poll_next(session, link)),
+        _ => event_word(alloc, stream.poll_next_if_any(session, link)),
+    }
 }
 
 // Two calls of a stream in a session, one that lends an event and one that seeks an event, and its closing.
@@ -253,7 +252,7 @@ fn followed_in(alloc: Global, link: &mut ScriptLink) -> Result<String, Error> {
     let third = word_in(alloc, &mut stream, &mut session, link, b'a')?;
     let last = word_in(alloc, &mut stream, &mut session, link, b'n')?;
     let closed = end_word(alloc, stream.close().poll(link))?;
-    Ok(format!(in alloc; "{first}{second}{third}{last}{closed}")?)
+    written(format!(in alloc; "{first}{second}{third}{last}{closed}"))
 }
 
 /// How the commands of such a stream are answered: the aggregate and the killing behind a fault resume it. Behind them, what comes
@@ -265,10 +264,10 @@ struct Followed;
 
 impl Subject for Followed {
     fn found(alloc: Global, script: &str) -> Result<String, Error> {
-        let mut link = link_of(alloc, REPLIES, script, 0)?;
-        let seen = followed_in(alloc, &mut link)?;
-        let sent = command_words(alloc, &link)?;
-        Ok(format!(in alloc; "{seen}{sent}")?)
+        let mut answered = link_of(alloc, REPLIES, script, 0)?;
+        let seen = followed_in(alloc, &mut answered.link)?;
+        let sent = command_words(alloc, &answered.link)?;
+        written(format!(in alloc; "{seen}{sent}"))
     }
 }
 

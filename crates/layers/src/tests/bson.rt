@@ -1,5 +1,5 @@
 use super::{Subject, are_found, copied, document_at};
-use crate::{bytes_at, json_value, one_field, parted, with};
+use crate::{bytes_at, json_value, one_field, owned, parted, with, written};
 use mg_bson::{
     Binary, Bson, BsonError, Document, Malformation, ObjectId, RawDocument, RawDocumentBuf,
     RawValue, Regex, to_bytes, to_document,
@@ -370,7 +370,7 @@ const PARTED_NAMES: &str = "\
 // The hexadecimal digits of the bytes of a document.
 fn digits_of(alloc: Global, document: &Document) -> Result<String, Error> {
     let bytes = to_bytes(alloc, document)?;
-    Ok(hex::encode(alloc, bytes.as_bytes())?)
+    written(hex::encode(alloc, bytes.as_bytes()))
 }
 
 struct Vectors;
@@ -379,12 +379,12 @@ impl Subject for Vectors {
     // How the value of the name `x` prints, how long its document is, and its digits where these are others.
     fn found(alloc: Global, digits: &str) -> Result<String, Error> {
         let document = document_at(alloc, digits)?;
-        let written = digits_of(alloc, &document)?;
+        let again = digits_of(alloc, &document)?;
         let len = document.encoded_len()?.saturating_mul(2);
-        if written.as_str() == digits && len == digits.len() {
-            Ok(format!(in alloc; "{:?}", document.get("x"))?)
+        if again.as_str() == digits && len == digits.len() {
+            written(format!(in alloc; "{:?}", document.get("x")))
         } else {
-            Ok(written)
+            Ok(again)
         }
     }
 }
@@ -444,7 +444,7 @@ impl Subject for Refused {
         let is_lent = RawDocument::from_bytes(&bytes).is_ok();
         let is_refused = matches!(RawDocumentBuf::from_bytes(bytes), Err(BsonError::Malformed));
         let taken = if is_refused && !is_lent { "" } else { "taken" };
-        Ok(String::from_str(alloc, taken)?)
+        owned(alloc, taken)
     }
 }
 
@@ -466,7 +466,7 @@ struct Faults;
 impl Subject for Faults {
     fn found(alloc: Global, line: &str) -> Result<String, Error> {
         let (digits, _) = parted(line);
-        Ok(fault_of(alloc, &bytes_at(alloc, digits)?)?)
+        written(fault_of(alloc, &bytes_at(alloc, digits)?))
     }
 }
 
@@ -506,26 +506,36 @@ fn letters_in_names(rt: HostRuntime) {
     are_found::<PartedNames>(&rt, "\n", PARTED_NAMES);
 }
 
-// The bytes of the document of so many levels, each but the first in a value of the kind: a document, an array or code
-// with its scope.
-fn nested_bytes(alloc: Global, kind: u8, levels: u32) -> Result<Vec<u8>, BsonError> {
-    let mut bytes = Vec::from_slice(alloc, &[5, 0, 0, 0, 0])?;
+// The bytes of a document around those of the document in its value of the kind: a document, an array or code with its scope.
+fn around(alloc: Global, kind: u8, inner: &[u8]) -> Result<Vec<u8>, AllocError> {
     let is_code = kind == 15;
+    let beside: u64 = if is_code { 9 } else { 0 };
+    let value_len = (inner.len() as u64).wrapping_add(beside);
+    let mut outer = Vec::from_slice(alloc, &value_len.wrapping_add(8).to_le_bytes()[..4])?;
+    outer.extend_from_slice(&[kind, 48, 0])?;
+    if is_code {
+        outer.extend_from_slice(&value_len.to_le_bytes()[..4])?;
+        outer.extend_from_slice(&[1, 0, 0, 0, 0])?;
+    }
+    outer.extend_from_slice(inner)?;
+    outer.push(0)?;
+    Ok(outer)
+}
+
+// The bytes of the document of so many levels.
+fn nested_bytes(alloc: Global, kind: u8, levels: u32) -> Result<Vec<u8>, AllocError> {
+    let mut bytes = Vec::from_slice(alloc, &[5, 0, 0, 0, 0])?;
     for _ in 1..levels {
-        let beside: u64 = if is_code { 9 } else { 0 };
-        let value_len = (bytes.len() as u64).wrapping_add(beside);
-        let mut outer = Vec::new(alloc);
-        outer.extend_from_slice(&value_len.wrapping_add(8).to_le_bytes()[..4])?;
-        outer.extend_from_slice(&[kind, 48, 0])?;
-        if is_code {
-            outer.extend_from_slice(&value_len.to_le_bytes()[..4])?;
-            outer.extend_from_slice(&[1, 0, 0, 0, 0])?;
-        }
-        outer.extend_from_slice(&bytes)?;
-        outer.push(0)?;
-        bytes = outer;
+        bytes = around(alloc, kind, &bytes)?;
     }
     Ok(bytes)
+}
+
+// Why a document of one field is not written, and why it has no length.
+fn faults_of(alloc: Global, name: &str, value: Bson) -> Result<String, Error> {
+    let document = one_field(alloc, name, value)?;
+    let unwritten = to_bytes(alloc, &document).err();
+    written(format!(in alloc; "[{unwritten:?}, {:?}]", document.encoded_len().err()))
 }
 
 // Whether a document of 100 levels is written as it was read, why one of 101 is not written and has no length, and why and
@@ -538,83 +548,52 @@ fn levels_of(alloc: Global, kind: u8) -> Result<String, Error> {
     let too_deep = nested_bytes(alloc, kind, 101)?;
     let fault = fault_of(alloc, &too_deep)?;
     let unread = RawDocumentBuf::from_bytes(too_deep).err();
-    Ok(format!(in alloc; "{is_same} {deeper:?} {unread:?} {fault}")?)
+    written(format!(in alloc; "{is_same} {deeper} {unread:?} {fault}"))
 }
 
-/// The kinds of values that stand in each other, and what comes of 100 and of 101 levels.
-const LEVELS: &str = "3 -> true [Some(TooDeep), Some(TooDeep)] Some(Malformed) 4:Value
-4 -> true [Some(TooDeep), Some(TooDeep)] Some(Malformed) 4:Value
-15 -> true [Some(TooDeep), Some(TooDeep)] Some(Malformed) 4:Value";
-
-struct Levels;
-
-impl Subject for Levels {
-    fn found(alloc: Global, kind: &str) -> Result<String, Error> {
-        levels_of(alloc, kind.parse::<u8>().unwrap_or(0))
-    }
+// The faults of a binary of so many bytes. Its document has 13 bytes more.
+fn size_of(alloc: Global, len: u32) -> Result<String, Error> {
+    let bytes = vec![in alloc; 0; len as usize]?;
+    faults_of(alloc, "x", Bson::Binary(Binary { subtype: 0, bytes }))
 }
 
-#[test]
-fn limits_of_levels(rt: HostRuntime) {
-    are_found::<Levels>(&rt, " -> ", LEVELS);
-}
-
-/// How many bytes a binary has, and why its document is not written, and has no length. It takes 13 bytes more.
-const SIZES: &str = "47999987 -> [None, None]
-47999988 -> [Some(TooLarge), Some(TooLarge)]";
-
-struct Sizes;
-
-impl Subject for Sizes {
-    fn found(alloc: Global, len: &str) -> Result<String, Error> {
-        let bytes = vec![in alloc; 0; len.parse::<u32>().unwrap_or(0) as usize]?;
-        let faults = faults_of(alloc, "x", Bson::Binary(Binary { subtype: 0, bytes }))?;
-        Ok(format!(in alloc; "{faults:?}")?)
-    }
-}
-
-#[test]
-fn limits_of_size(rt: HostRuntime) {
-    are_found::<Sizes>(&rt, " -> ", SIZES);
-}
-
-// Why a document of one field is not written, and why it has no length.
-fn faults_of(alloc: Global, name: &str, value: Bson) -> Result<[Option<BsonError>; 2], Error> {
-    let document = one_field(alloc, name, value)?;
-    Ok([
-        to_bytes(alloc, &document).err(),
-        document.encoded_len().err(),
-    ])
-}
-
-// A regular expression whose pattern holds the character 0.
-fn bad_regex(alloc: Global) -> Result<Bson, BsonError> {
+// The faults of a regular expression whose pattern holds the character 0.
+fn bad_pattern(alloc: Global) -> Result<String, Error> {
     let pattern = String::from_str(alloc, "a\0")?;
     let options = String::new(alloc);
-    Ok(Bson::Regex(Box::new(alloc, Regex { pattern, options })?))
+    let regex = Box::new(alloc, Regex { pattern, options })?;
+    faults_of(alloc, "x", Bson::Regex(regex))
 }
 
-/// Why neither a bad name nor a bad pattern is written or has a length, and what that prints as.
-const ZEROS: &str = "name -> [Some(BadName), Some(BadName)]
+/// The kinds of values that stand in each other, and what comes of 100 and of 101 levels; how many bytes a binary has, and why
+/// its document is not written, and has no length; the same of a bad name and of a bad pattern, and what that prints as.
+const LIMITS: &str = "levels 3 -> true [Some(TooDeep), Some(TooDeep)] Some(Malformed) 4:Value
+levels 4 -> true [Some(TooDeep), Some(TooDeep)] Some(Malformed) 4:Value
+levels 15 -> true [Some(TooDeep), Some(TooDeep)] Some(Malformed) 4:Value
+size 47999987 -> [None, None]
+size 47999988 -> [Some(TooLarge), Some(TooLarge)]
+name -> [Some(BadName), Some(BadName)]
 pattern -> [Some(BadName), Some(BadName)]
 printed -> BadName";
 
-struct Zeros;
+struct Limits;
 
-impl Subject for Zeros {
-    fn found(alloc: Global, about: &str) -> Result<String, Error> {
-        let faults = match about {
-            "name" => faults_of(alloc, "a\0b", Bson::Null)?,
-            "pattern" => faults_of(alloc, "x", bad_regex(alloc)?)?,
-            _ => return Ok(format!(in alloc; "{}", BsonError::BadName)?),
-        };
-        Ok(format!(in alloc; "{faults:?}")?)
+impl Subject for Limits {
+    fn found(alloc: Global, line: &str) -> Result<String, Error> {
+        let (about, number) = parted(line);
+        match about {
+            "levels" => levels_of(alloc, number.parse::<u8>().unwrap_or(0)),
+            "size" => size_of(alloc, number.parse::<u32>().unwrap_or(0)),
+            "name" => faults_of(alloc, "a\0b", Bson::Null),
+            "pattern" => bad_pattern(alloc),
+            _ => written(format!(in alloc; "{}", BsonError::BadName)),
+        }
     }
 }
 
 #[test]
-fn bad_names(rt: HostRuntime) {
-    are_found::<Zeros>(&rt, " -> ", ZEROS);
+fn limits_of_documents(rt: HostRuntime) {
+    are_found::<Limits>(&rt, " -> ", LIMITS);
 }
 
 // Texts, and the object ids that they are, with their digits and as they print.
@@ -632,10 +611,10 @@ struct Ids;
 impl Subject for Ids {
     fn found(alloc: Global, text: &str) -> Result<String, Error> {
         let Some(id) = ObjectId::parse_str(text) else {
-            return Ok(String::from_str(alloc, "none")?);
+            return owned(alloc, "none");
         };
         let digits = id.to_hex(alloc)?;
-        Ok(format!(in alloc; "{id:?} {digits} {id}")?)
+        written(format!(in alloc; "{id:?} {digits} {id}"))
     }
 }
 
@@ -648,7 +627,7 @@ fn object_ids(rt: HostRuntime) {
 fn sample(alloc: Global) -> Result<Document, Error> {
     let document = one_field(alloc, "a", Bson::Int32(1))?;
     let document = with(document, "b", json_value(alloc, r#"[7,"s"]"#)?)?;
-    Ok(with(document, "a", Bson::Int32(2))?)
+    with(document, "a", Bson::Int32(2))
 }
 
 // Puts behind a text what a value prints as.
@@ -690,7 +669,7 @@ fn copied_bytes(alloc: Global) -> Result<RawDocumentBuf, Error> {
 
 fn list_of_b(alloc: Global) -> Result<String, Error> {
     let list = list_in(alloc, &copied_bytes(alloc)?.as_raw())?;
-    Ok(format!(in alloc; "{list:?}")?)
+    written(format!(in alloc; "{list:?}"))
 }
 
 /// Changes and copies of a document, and what comes of them.

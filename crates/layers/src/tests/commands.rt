@@ -1,8 +1,8 @@
 use super::records::{keys, shown};
 use super::sessions::session_of;
 use super::{Subject, are_found, copied, records};
-use crate::{collection, find, namespace, one_field, parted, text, with};
-use mg_bson::{Bson, Document, to_document};
+use crate::{collection, find, insert, namespace, one_field, parted, text, with};
+use mg_bson::{Binary, Bson, Document, to_document};
 use mg_link::{
     ClientSession, Error, OperationTarget, ReadConcern, ReadConcernLevel, ReadPreference,
     SelectionCriteria, WriteConcern,
@@ -54,7 +54,8 @@ short excessive -~invalid batch size
 short least -~invalid limit
 short zero -~find batchSize limit filter $db {"$db":"db","batchSize":1,"filter":{},"find":"c","limit":{"$int64":"0"}}
 short patient -~getMore collection maxTimeMS $db {"$db":"db","collection":"c","getMore":{"$int64":"9"},"maxTimeMS":2147483647}
-short out -~aggregate pipeline cursor $db {"$db":"db","aggregate":"c","cursor":{},"pipeline":[{"$out":"d"}]}"#;
+short out -~aggregate pipeline cursor $db {"$db":"db","aggregate":"c","cursor":{},"pipeline":[{"$out":"d"}]}
+short large -~the document cannot be written"#;
 
 // A write is to be in the journal.
 pub(super) fn journaled() -> WriteConcern {
@@ -98,7 +99,7 @@ fn local_options() -> FindOptions {
 
 /// A find that reads what is local at any server.
 pub(super) fn local_find(alloc: Global) -> Result<Find, Error> {
-    Ok(find(alloc, "coll", keys(alloc, 1)?, local_options())?)
+    find(alloc, "coll", keys(alloc, 1)?, local_options())
 }
 
 // A tailable find has a limit that is the size of its batches.
@@ -484,8 +485,16 @@ fn aggregate_out(alloc: Global) -> Result<Document, Error> {
     aggregate(alloc, None, target, pipeline, options)
 }
 
+// An insert of a document that is too large by its binary.
+fn insert_large(alloc: Global) -> Result<Document, Error> {
+    let bytes = vec![in alloc; 0; 16_777_216]?;
+    let document = one_field(alloc, "_id", Bson::Binary(Binary { subtype: 0, bytes }))?;
+    insert(alloc, "coll", vec![in alloc; document]?)?.build(alloc, 21, None)
+}
+
 fn shorts(alloc: Global, way: &str) -> Result<Document, Error> {
     match way {
+        "large" => insert_large(alloc),
         "patient" => get_more(alloc, None, "c", Some(0), Some(2_147_483_648), None),
         "out" => aggregate_out(alloc),
         _ => find_up_to(alloc, way),

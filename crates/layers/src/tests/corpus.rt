@@ -269,21 +269,9 @@ const KEPT: &str = "\
 ";
 
 #[test]
-fn canonical_documents(rt: HostRuntime) {
+fn cases_of_the_corpus(rt: HostRuntime) {
     are_found::<Kept>(&rt, "\n", CANONICAL);
-}
-
-#[test]
-fn degenerate_arrays(rt: HostRuntime) {
     are_found::<Renamed>(&rt, "\n", DEGENERATE);
-}
-
-#[test]
-fn refused_bytes(rt: HostRuntime) {
     are_found::<Refused>(&rt, "\n", REFUSED);
-}
-
-#[test]
-fn kept_documents(rt: HostRuntime) {
     are_found::<Kept>(&rt, "\n", KEPT);
 }

@@ -1,11 +1,11 @@
 use super::{Subject, are_found, document_at, raw_at};
-use crate::{json_value, one_field, parted, with};
+use crate::{json_value, one_field, parted, with, written};
 use mg_bson::{Bson, DateTime, Document, ObjectId, RawDocument, RawValue, to_bytes};
 use mg_link::Error;
 use std::alloc::Global;
 use std::fmt::Debug;
 
-// A document, the reader and the name, and what it finds.
+// A document, the reader and the name, and what it finds; without a name, what it lends of the value `x`.
 const READERS: &str = "\
 10000000017800000000000000f03f00 double x -> Ok([0, 0, 0, 0, 0, 0, 240, 63])
 0f0000000278000300000068690000 str x -> Ok(\"hi\")
@@ -28,49 +28,6 @@ const READERS: &str = "\
 10000000107800010000000878000100 bool x -> Err(UnexpectedType)
 0c0000001078000100000000 i32 y -> Err(NotPresent)
 0500000000 document x -> Err(NotPresent)
-";
-
-fn shown<T: Debug + Drop>(alloc: Global, found: T) -> Result<String, Error> {
-    Ok(format!(in alloc; "{found:?}")?)
-}
-
-// How what the reader finds prints.
-fn found_by(alloc: Global, reader: &str, document: &Document, name: &str) -> Result<String, Error> {
-    match reader {
-        "double" => shown(alloc, document.get_double(name)),
-        "str" => shown(alloc, document.get_str(name)),
-        "document" => shown(alloc, document.get_document(name)),
-        "array" => shown(alloc, document.get_array(name)),
-        "binary" => shown(alloc, document.get_binary(name)),
-        "object_id" => shown(alloc, document.get_object_id(name)),
-        "bool" => shown(alloc, document.get_bool(name)),
-        "datetime" => shown(alloc, document.get_datetime(name)),
-        "i32" => shown(alloc, document.get_i32(name)),
-        "timestamp" => shown(alloc, document.get_timestamp(name)),
-        "i64" => shown(alloc, document.get_i64(name)),
-        "decimal128" => shown(alloc, document.get_decimal128(name)),
-        "null" => shown(alloc, document.is_null(name)),
-        _ => shown(alloc, reader),
-    }
-}
-
-struct Readers;
-
-impl Subject for Readers {
-    fn found(alloc: Global, line: &str) -> Result<String, Error> {
-        let (digits, rest) = parted(line);
-        let (reader, name) = parted(rest);
-        found_by(alloc, reader, &document_at(alloc, digits)?, name)
-    }
-}
-
-#[test]
-fn readers_by_kind(rt: HostRuntime) {
-    are_found::<Readers>(&rt, " -> ", READERS);
-}
-
-// A document, the reader, and what it lends of the value `x`.
-const LENDERS: &str = "\
 10000000017800000000000000f03f00 double -> Some([0, 0, 0, 0, 0, 0, 240, 63])
 0f0000000578000200000000010200 binary -> Some((0, [1, 2]))
 140000000778000102030405060708090a0b0c00 object_id -> Some(ObjectId([1, 2, 3, 4, 5, 6, 7, 8, 9, 10, 11, 12]))
@@ -83,34 +40,67 @@ const LENDERS: &str = "\
 0c0000001078000100000000 object_id -> None
 ";
 
-// How what the reader lends prints.
-fn lent_by(alloc: Global, reader: &str, value: &RawValue<'_>) -> Result<String, Error> {
+fn shown(alloc: Global, found: &impl Debug) -> Result<String, Error> {
+    written(format!(in alloc; "{found:?}"))
+}
+
+// How what the reader finds prints.
+fn found_by(alloc: Global, reader: &str, document: &Document, name: &str) -> Result<String, Error> {
     match reader {
-        "double" => shown(alloc, value.as_double()),
-        "binary" => shown(alloc, value.as_binary()),
-        "object_id" => shown(alloc, value.as_object_id()),
-        "decimal128" => shown(alloc, value.as_decimal128()),
-        "null" => shown(alloc, value.is_null()),
-        _ => shown(alloc, reader),
+        "double" => shown(alloc, &document.get_double(name)),
+        "str" => shown(alloc, &document.get_str(name)),
+        "document" => shown(alloc, &document.get_document(name)),
+        "array" => shown(alloc, &document.get_array(name)),
+        "binary" => shown(alloc, &document.get_binary(name)),
+        "object_id" => shown(alloc, &document.get_object_id(name)),
+        "bool" => shown(alloc, &document.get_bool(name)),
+        "datetime" => shown(alloc, &document.get_datetime(name)),
+        "i32" => shown(alloc, &document.get_i32(name)),
+        "timestamp" => shown(alloc, &document.get_timestamp(name)),
+        "i64" => shown(alloc, &document.get_i64(name)),
+        "decimal128" => shown(alloc, &document.get_decimal128(name)),
+        "null" => shown(alloc, &document.is_null(name)),
+        _ => shown(alloc, &reader),
     }
 }
 
-struct Lenders;
+// How what is lent prints.
+fn lent_by(alloc: Global, reader: &str, value: &RawValue<'_>) -> Result<String, Error> {
+    match reader {
+        "double" => shown(alloc, &value.as_double()),
+        "binary" => shown(alloc, &value.as_binary()),
+        "object_id" => shown(alloc, &value.as_object_id()),
+        "decimal128" => shown(alloc, &value.as_decimal128()),
+        "null" => shown(alloc, &value.is_null()),
+        _ => shown(alloc, &reader),
+    }
+}
 
-impl Subject for Lenders {
+// How what the reader lends of the value `x` prints.
+fn lent_of(alloc: Global, digits: &str, reader: &str) -> Result<String, Error> {
+    let raw = raw_at(alloc, digits)?;
+    match raw.as_raw().get("x") {
+        Some(value) => lent_by(alloc, reader, &value),
+        None => Ok(String::new(alloc)),
+    }
+}
+
+struct Readers;
+
+impl Subject for Readers {
     fn found(alloc: Global, line: &str) -> Result<String, Error> {
-        let (digits, reader) = parted(line);
-        let raw = raw_at(alloc, digits)?;
-        match raw.as_raw().get("x") {
-            Some(value) => lent_by(alloc, reader, &value),
-            None => Ok(String::new(alloc)),
+        let (digits, rest) = parted(line);
+        let (reader, name) = parted(rest);
+        if name.is_empty() {
+            return lent_of(alloc, digits, reader);
         }
+        found_by(alloc, reader, &document_at(alloc, digits)?, name)
     }
 }
 
 #[test]
-fn lent_by_kind(rt: HostRuntime) {
-    are_found::<Lenders>(&rt, " -> ", LENDERS);
+fn readers_by_kind(rt: HostRuntime) {
+    are_found::<Readers>(&rt, " -> ", READERS);
 }
 
 // A document of plain values.
@@ -123,18 +113,18 @@ fn plain(alloc: Global) -> Result<Document, Error> {
     )?;
     let document = with(document, "t", Bson::from(DateTime { millis: 5 }))?;
     let id = Bson::from(ObjectId([1; 12]));
-    Ok(with(document, "a name of more than 23 bytes", id)?)
+    with(document, "a name of more than 23 bytes", id)
 }
 
 // The names and values in order, and the values of the arrays among them.
 fn listed(alloc: Global, document: &Document) -> Result<String, Error> {
     let mut text = String::new(alloc);
     for (name, value) in document {
-        text.push_str(format!(in alloc; "{name}={value:?};")?.as_str())?;
+        write!(text, "{name}={value:?};")?;
     }
     if let Ok(items) = document.get_array("a") {
         for value in items {
-            text.push_str(format!(in alloc; "{value:?};")?.as_str())?;
+            write!(text, "{value:?};")?;
         }
     }
     Ok(text)
@@ -144,12 +134,11 @@ fn listed(alloc: Global, document: &Document) -> Result<String, Error> {
 fn listed_raw(alloc: Global, document: &RawDocument<'_>) -> Result<String, Error> {
     let mut text = String::new(alloc);
     for (name, _) in document {
-        text.push_str(name)?;
-        text.push(';')?;
+        write!(text, "{name};")?;
     }
     if let Some(RawValue::Array(items)) = &document.get("a") {
         for value in items {
-            text.push_str(format!(in alloc; "{value:?};")?.as_str())?;
+            write!(text, "{value:?};")?;
         }
     }
     Ok(text)
@@ -162,7 +151,7 @@ fn changed(alloc: Global) -> Result<String, Error> {
         *value = Bson::from(8);
     }
     let is_absent = document.get_mut("m").is_none();
-    Ok(format!(in alloc; "{:?} {is_absent}", document.get_i32("n"))?)
+    written(format!(in alloc; "{:?} {is_absent}", document.get_i32("n")))
 }
 
 /// A document, its bytes, and the document changed in its place.

@@ -1,6 +1,6 @@
 use super::{Subject, are_found};
-use crate::{json_value, one_field, parted, repeated, text, with, with_text};
-use mg_bson::{Array, Bson, BsonError, Document, RawDocument, to_bytes};
+use crate::{json_value, named, one_field, parted, repeated, text, with, with_text, written};
+use mg_bson::{Array, Bson, Document, RawDocument, to_bytes};
 use mg_link::{Error, Namespace, OutOfMemory};
 use mg_store::Store;
 use std::alloc::{AllocError, Global};
@@ -11,13 +11,13 @@ fn padding(alloc: Global, bytes: u32, beside: u32) -> Result<String, AllocError>
 }
 
 // A document of so many bytes: its `_id`, and a text that brings it there.
-fn padded(alloc: Global, id: i32, bytes: u32) -> Result<Document, BsonError> {
+fn padded(alloc: Global, id: i32, bytes: u32) -> Result<Document, Error> {
     let document = one_field(alloc, "_id", Bson::Int32(id))?;
     with(document, "p", Bson::String(padding(alloc, bytes, 22)?))
 }
 
 // So many documents of so many bytes.
-fn all_padded(alloc: Global, count: i32, bytes: u32) -> Result<Array, BsonError> {
+fn all_padded(alloc: Global, count: i32, bytes: u32) -> Result<Array, Error> {
     let mut documents = Array::new(alloc);
     for id in 0..count {
         documents.push(Bson::Document(padded(alloc, id, bytes)?))?;
@@ -25,24 +25,22 @@ fn all_padded(alloc: Global, count: i32, bytes: u32) -> Result<Array, BsonError>
     Ok(documents)
 }
 
-// A command of this name to a collection, with a field more.
+// A command of this name to a collection.
+fn command_to(alloc: Global, name: &str, coll: &str) -> Result<Document, Error> {
+    let command = one_field(alloc, name, text(alloc, coll)?)?;
+    with_text(alloc, command, "$db", "app")
+}
+
+// The same with a field more, whose value is a JSON text.
 fn command_with(
     alloc: Global,
     name: &str,
     coll: &str,
     field: &str,
-    value: Bson,
-) -> Result<Document, BsonError> {
-    let command = one_field(alloc, name, text(alloc, coll)?)?;
-    let command = with_text(alloc, command, "$db", "app")?;
-    with(command, field, value)
-}
-
-// A list of this document alone.
-fn only(alloc: Global, document: Document) -> Result<Bson, BsonError> {
-    let mut list = Array::new(alloc);
-    list.push(Bson::Document(document))?;
-    Ok(Bson::Array(list))
+    json: &str,
+) -> Result<Document, Error> {
+    let command = command_to(alloc, name, coll)?;
+    with(command, field, json_value(alloc, json)?)
 }
 
 // How many items the array of this name has.
@@ -81,7 +79,7 @@ fn told(alloc: Global, reply: &RawDocument<'_>) -> Result<String, AllocError> {
 fn answer_to(alloc: Global, store: &mut Store, command: &Document) -> Result<String, Error> {
     let command = to_bytes(alloc, command)?;
     let receipt = store.perform(command.as_raw())?;
-    Ok(told(alloc, &receipt.reply.as_raw())?)
+    written(told(alloc, &receipt.reply.as_raw()))
 }
 
 // The stages of a watch from the first change on.
@@ -89,29 +87,23 @@ const WATCH: &str = r#"[{"$changeStream":{"startAtOperationTime":{"$timestamp":{
 
 // An aggregate that watches a collection from its first change on.
 fn watch_of(alloc: Global, coll: &str) -> Result<Document, Error> {
-    let stages = json_value(alloc, WATCH)?;
-    let command = command_with(alloc, "aggregate", coll, "pipeline", stages)?;
-    Ok(with(command, "cursor", Bson::Document(Document::new(alloc)))?)
+    let command = command_with(alloc, "aggregate", coll, "pipeline", WATCH)?;
+    with(command, "cursor", Bson::Document(Document::new(alloc)))
 }
 
-// A command to a database with a name of so many bytes: an insert into a collection with a name of so many, a watch of
-// that, or a list of collections.
-fn named_command(
-    alloc: Global,
-    name: &str,
-    db_bytes: u32,
-    coll_bytes: u32,
-) -> Result<Document, Error> {
-    let coll = repeated(alloc, "", "c", coll_bytes, "")?;
-    let mut command = match name {
-        "insert" => {
-            let documents = Bson::Array(all_padded(alloc, 1, 22)?);
-            command_with(alloc, "insert", coll.as_str(), "documents", documents)?
-        }
-        "watch" => watch_of(alloc, coll.as_str())?,
-        _ => one_field(alloc, "listCollections", Bson::Int32(1))?,
-    };
-    let db = repeated(alloc, "", "d", db_bytes, "")?;
+// An insert into a collection, a watch of it, or a list of collections.
+fn command_about(alloc: Global, name: &str, coll: &str) -> Result<Document, Error> {
+    match name {
+        "insert" => command_with(alloc, "insert", coll, "documents", r#"[{"_id":0,"p":""}]"#),
+        "watch" => watch_of(alloc, coll),
+        _ => one_field(alloc, "listCollections", Bson::Int32(1)),
+    }
+}
+
+// The command, to a database with a name of so many bytes.
+fn in_database(alloc: Global, command: Document, bytes: u32) -> Result<Document, Error> {
+    let mut command = command;
+    let db = repeated(alloc, "", "d", bytes, "")?;
     let _old = command.insert("$db", Bson::String(db))?;
     Ok(command)
 }
@@ -137,7 +129,9 @@ impl Subject for Names {
     fn found(alloc: Global, line: &str) -> Result<String, Error> {
         let (name, sizes) = parted(line);
         let (db, coll) = parted(sizes);
-        let command = named_command(alloc, name, number_of(db), number_of(coll))?;
+        let coll = repeated(alloc, "", "c", number_of(coll), "")?;
+        let command = command_about(alloc, name, coll.as_str())?;
+        let command = in_database(alloc, command, number_of(db))?;
         answer_to(alloc, &mut Store::new(alloc), &command)
     }
 }
@@ -149,30 +143,38 @@ fn names_have_65536_bytes_at_most(rt: HostRuntime) {
 
 // A store of so many documents of so many bytes.
 fn filled(alloc: Global, count: i32, bytes: u32) -> Result<Store, Error> {
-    let documents = Bson::Array(all_padded(alloc, count, bytes)?);
-    let insert = command_with(alloc, "insert", "c", "documents", documents)?;
+    let insert = command_to(alloc, "insert", "c")?;
+    let insert = with(
+        insert,
+        "documents",
+        Bson::Array(all_padded(alloc, count, bytes)?),
+    )?;
     let mut store = Store::new(alloc);
     let _done = answer_to(alloc, &mut store, &insert)?;
     Ok(store)
 }
 
-// How many of so many documents of so many bytes, or of the events of their inserts, each of three batches has.
-fn batches(alloc: Global, name: &str, count: i32, bytes: u32) -> Result<String, Error> {
-    let opening = match name {
-        "find" => {
-            let filter = Bson::Document(Document::new(alloc));
-            command_with(alloc, "find", "c", "filter", filter)?
-        }
-        _ => watch_of(alloc, "c")?,
-    };
+// A find of everything, or a watch.
+fn opening_of(alloc: Global, name: &str) -> Result<Document, Error> {
+    match name {
+        "find" => command_with(alloc, "find", "c", "filter", "{}"),
+        _ => watch_of(alloc, "c"),
+    }
+}
+
+// A getMore of the cursor 1.
+fn get_more(alloc: Global) -> Result<Document, Error> {
     let more = one_field(alloc, "getMore", Bson::Int64(1))?;
     let more = with_text(alloc, more, "collection", "c")?;
-    let more = with_text(alloc, more, "$db", "app")?;
-    let mut store = filled(alloc, count, bytes)?;
-    let first = answer_to(alloc, &mut store, &opening)?;
-    let second = answer_to(alloc, &mut store, &more)?;
-    let third = answer_to(alloc, &mut store, &more)?;
-    Ok(format!(in alloc; "{first} {second} {third}")?)
+    with_text(alloc, more, "$db", "app")
+}
+
+// How many of the documents of a store, or of the events of their inserts, each of three batches has.
+fn batches(alloc: Global, store: &mut Store, name: &str) -> Result<String, Error> {
+    let first = answer_to(alloc, store, &opening_of(alloc, name)?)?;
+    let second = answer_to(alloc, store, &get_more(alloc)?)?;
+    let third = answer_to(alloc, store, &get_more(alloc)?)?;
+    written(format!(in alloc; "{first} {second} {third}"))
 }
 
 // Some fit a batch just where they have 16,777,216 bytes together; one fits always, and 101 are the most where no size is
@@ -193,7 +195,7 @@ impl Subject for BatchSizes {
         let (name, sizes) = parted(line);
         let (count, bytes) = parted(sizes);
         let count = count.parse::<i32>().unwrap_or(0);
-        batches(alloc, name, count, number_of(bytes))
+        batches(alloc, &mut filled(alloc, count, number_of(bytes))?, name)
     }
 }
 
@@ -203,12 +205,16 @@ fn batches_are_cut(rt: HostRuntime) {
 }
 
 // A command that kills the cursors with the first so many ids.
-fn kill_of(alloc: Global, count: i32) -> Result<Document, BsonError> {
+fn kill_of(alloc: Global, count: i32) -> Result<Document, Error> {
     let mut ids = Array::new(alloc);
     for id in 0..count {
         ids.push(Bson::Int32(id))?;
     }
-    command_with(alloc, "killCursors", "c", "cursors", Bson::Array(ids))
+    with(
+        command_to(alloc, "killCursors", "c")?,
+        "cursors",
+        Bson::Array(ids),
+    )
 }
 
 /// The reply lists each id in 64 bits, those of open cursors apart: so with so many open cursors and so many ids it has
@@ -236,49 +242,38 @@ fn replies_have_47_million_bytes_at_most(rt: HostRuntime) {
     are_found::<Killed>(&rt, " -> ", KILLED);
 }
 
-// A document of so many levels.
-fn deep(alloc: Global, levels: u32) -> Result<Document, BsonError> {
-    let mut document = Document::new(alloc);
-    for _ in 1..levels {
-        document = one_field(alloc, "d", Bson::Document(document))?;
-    }
-    Ok(document)
-}
-
-// An update of the first document by this modification.
-fn update_of(alloc: Global, modification: Document) -> Result<Document, BsonError> {
-    let update = one_field(alloc, "q", Bson::Document(Document::new(alloc)))?;
-    let update = with(update, "u", Bson::Document(modification))?;
-    command_with(alloc, "update", "c", "updates", only(alloc, update)?)
-}
-
-// An update that sets one field.
-fn set_of(alloc: Global, name: &str, value: Bson) -> Result<Document, BsonError> {
-    let fields = one_field(alloc, name, value)?;
-    update_of(alloc, one_field(alloc, "$set", Bson::Document(fields))?)
-}
-
-fn index_of(alloc: Global, key: Document, name: String) -> Result<Document, BsonError> {
-    let index = one_field(alloc, "key", Bson::Document(key))?;
-    let index = with(index, "name", Bson::String(name))?;
-    command_with(alloc, "createIndexes", "c", "indexes", only(alloc, index)?)
-}
-
-// A command whose document, modification or key has so many levels.
-fn deep_command(alloc: Global, name: &str, levels: u32) -> Result<Document, BsonError> {
+// The name of a command, and of the field that says what it does.
+fn place_of(name: &str) -> (&'static str, &'static str) {
     match name {
-        "insert" => {
-            let document = with(deep(alloc, levels)?, "_id", Bson::Int64(i64::from(levels)))?;
-            command_with(alloc, "insert", "c", "documents", only(alloc, document)?)
-        }
-        "replace" => update_of(alloc, deep(alloc, levels)?),
-        "set" => set_of(alloc, "d", Bson::Document(deep(alloc, levels)?)),
-        _ => index_of(
-            alloc,
-            deep(alloc, levels)?,
-            String::from_str(alloc, "deep")?,
-        ),
+        "insert" => ("insert", "documents"),
+        "index" => ("createIndexes", "indexes"),
+        _ => ("update", "updates"),
     }
+}
+
+// What a command does, with this text for the mark `@`.
+fn filled_in(alloc: Global, name: &str, form: &str, filling: &str) -> Result<Document, Error> {
+    let json = form.replace(alloc, "@", filling)?;
+    let (command, field) = place_of(name);
+    command_with(alloc, command, "c", field, json.as_str())
+}
+
+// The mark stands for a document of one level less than the document, the modification, the value or the key that it is in.
+fn deep_form(name: &str) -> &'static str {
+    match name {
+        "insert" => r#"[{"_id":{"$int64":"1"},"d":@}]"#,
+        "replace" => r#"[{"q":{},"u":{"d":@}}]"#,
+        "set" => r#"[{"q":{},"u":{"$set":{"d":{"d":@}}}}]"#,
+        _ => r#"[{"key":{"d":@},"name":"deep"}]"#,
+    }
+}
+
+// A command whose document, modification, value or key has so many levels.
+fn deep_command(alloc: Global, name: &str, levels: u32) -> Result<Document, Error> {
+    let times = levels.saturating_sub(2);
+    let opened = repeated(alloc, "", r#"{"d":"#, times, "{}")?;
+    let nested = repeated(alloc, opened.as_str(), "}", times, "")?;
+    filled_in(alloc, name, deep_form(name), nested.as_str())
 }
 
 // An event that a document stands in is one level deeper than it, one that tells of set fields three deeper than their
@@ -312,24 +307,24 @@ fn levels_of_what_is_stored(rt: HostRuntime) {
     are_found::<Levels>(&rt, " -> ", LEVELS);
 }
 
-// A command that makes a document or an index of so many bytes, or the collection.
-fn sized_command(alloc: Global, name: &str, bytes: u32) -> Result<Document, BsonError> {
+// The mark stands for a text.
+fn sized_form(name: &str) -> &'static str {
     match name {
-        "insert" => {
-            let document = padded(alloc, 0, bytes)?;
-            command_with(alloc, "insert", "c", "documents", only(alloc, document)?)
-        }
-        "replace" => update_of(alloc, padded(alloc, 0, bytes)?),
-        "set" => set_of(alloc, "p", Bson::String(padding(alloc, bytes, 22)?)),
-        "index" => {
-            let key = one_field(alloc, "a", Bson::Int32(1))?;
-            index_of(alloc, key, padding(alloc, bytes, 40)?)
-        }
-        _ => {
-            let command = one_field(alloc, "create", text(alloc, "c")?)?;
-            with_text(alloc, command, "$db", "app")
-        }
+        "insert" => r#"[{"_id":0,"p":"@"}]"#,
+        "replace" => r#"[{"q":{},"u":{"_id":0,"p":"@"}}]"#,
+        "set" => r#"[{"q":{},"u":{"$set":{"p":"@"}}}]"#,
+        _ => r#"[{"key":{"a":1},"name":"@"}]"#,
     }
+}
+
+// A command that makes a document or an index of so many bytes, or the collection.
+fn sized_command(alloc: Global, name: &str, bytes: u32) -> Result<Document, Error> {
+    if name == "create" {
+        return command_to(alloc, "create", "c");
+    }
+    let beside = if name == "index" { 40 } else { 22 };
+    let padding = padding(alloc, bytes, beside)?;
+    filled_in(alloc, name, sized_form(name), padding.as_str())
 }
 
 // How many bytes the last document of a collection has.
@@ -345,11 +340,9 @@ fn answered(alloc: Global, store: &mut Store, command: &str) -> Result<String, E
     let (name, bytes) = parted(command);
     let command = sized_command(alloc, name, number_of(bytes))?;
     let answer = answer_to(alloc, store, &command)?;
-    let db = String::from_str(alloc, "app")?;
-    let coll = String::from_str(alloc, "c")?;
-    let bytes = last_bytes(store, &Namespace { db, coll })?;
+    let bytes = last_bytes(store, &named(alloc, "app", "c")?)?;
     let changes = store.changes().len();
-    Ok(format!(in alloc; "{answer}, {changes} changes, {bytes} bytes")?)
+    written(format!(in alloc; "{answer}, {changes} changes, {bytes} bytes"))
 }
 
 // What a list says of an index has 40 bytes beside its name.

@@ -1,5 +1,5 @@
 use super::{Subject, are_found};
-use crate::parted;
+use crate::{owned, parted, written};
 use mg_bson::{Bson, BsonError, Document, to_bytes};
 use mg_link::{
     BadArgument, CommandError, CountedIds, Error, ErrorKind, GridFsErrorKind, GridFsFileIdentifier,
@@ -10,15 +10,15 @@ use mg_link::{
 use std::alloc::{AllocError, Global};
 
 // What a read, a read to the end, and one behind it give.
-fn reads<S: Source>(alloc: Global, source: &mut S, buf: &mut [u8]) -> Result<String, AllocError> {
+fn reads<S: Source>(alloc: Global, source: &mut S, buf: &mut [u8]) -> Result<String, Error> {
     let first = source.read(buf);
     let second = read_all(alloc, source);
     let third = read_all(alloc, source);
-    format!(in alloc; "/{first:?}/{second:?}/{third:?}")
+    written(format!(in alloc; "/{first:?}/{second:?}/{third:?}"))
 }
 
 // What the write of each word gives.
-fn writes<K: Sink>(alloc: Global, sink: &mut K, words: &str) -> Result<String, AllocError> {
+fn writes<K: Sink>(alloc: Global, sink: &mut K, words: &str) -> Result<String, Error> {
     let mut told = String::new(alloc);
     for word in words.split(' ') {
         let wrote = write_all(sink, word.as_bytes());
@@ -28,36 +28,36 @@ fn writes<K: Sink>(alloc: Global, sink: &mut K, words: &str) -> Result<String, A
 }
 
 // A source in memory, whose second read meets a fault.
-fn memory_reads(alloc: Global) -> Result<String, AllocError> {
+fn memory_reads(alloc: Global) -> Result<String, Error> {
     let bytes = Vec::from_slice(alloc, b"hello")?;
     let failing = Vec::from_slice(alloc, &[1])?;
     let mut buf = [0u8; 4];
     reads(alloc, &mut MemSource::new(bytes, 2, failing), &mut buf)
 }
 
-fn slice_reads(alloc: Global) -> Result<String, AllocError> {
+fn slice_reads(alloc: Global) -> Result<String, Error> {
     let mut buf = [0u8; 2];
     reads(alloc, &mut StdSource::new(b"hello".as_slice()), &mut buf)
 }
 
 // A sink in memory, whose fourth write meets a fault, and what was written.
-fn memory_writes(alloc: Global) -> Result<String, AllocError> {
+fn memory_writes(alloc: Global) -> Result<String, Error> {
     let failing = Vec::from_slice(alloc, &[3])?;
     let mut sink = MemSink::new(alloc, 2, failing);
     let told = writes(alloc, &mut sink, "hello you !")?;
-    format!(in alloc; "{told} {:?}", sink.bytes())
+    written(format!(in alloc; "{told} {:?}", sink.bytes()))
 }
 
-fn slice_writes(alloc: Global) -> Result<String, AllocError> {
+fn slice_writes(alloc: Global) -> Result<String, Error> {
     let mut room = [0u8; 4];
     writes(alloc, &mut StdSink::new(room.as_mut_slice()), "hi you")
 }
 
 // The first ids behind these bytes.
-fn counted(alloc: Global) -> Result<String, AllocError> {
+fn counted(alloc: Global) -> Result<String, Error> {
     let mut ids = CountedIds::new([1, 2, 3, 4]);
     let first = ids.next_id();
-    format!(in alloc; "{first} {}", ids.next_id())
+    written(format!(in alloc; "{first} {}", ids.next_id()))
 }
 
 // Whether a log is empty, how many calls it has then, and whether a fault was seen of the last.
@@ -75,29 +75,43 @@ fn logged(alloc: Global) -> Result<String, Error> {
         Some(call) => matches!(&call.seen, Seen::Fault),
         None => false,
     };
-    Ok(format!(in alloc; "{is_empty} {} {is_fault}", log.len())?)
+    written(format!(in alloc; "{is_empty} {} {is_fault}", log.len()))
 }
 
-/// Ends over memory and over slices, ids and a log, and what calls of them give.
+// What an error says of itself.
+fn answers_of(alloc: Global, name: &str) -> Result<String, Error> {
+    let error = error_of(alloc, name)?;
+    let is_lost = error.is_network_error();
+    let goes_on = error.is_resumable();
+    let is_labelled = error.contains_label("RetryableWriteError");
+    written(format!(in alloc; "{is_lost} {goes_on} {is_labelled} {:?}", error.sdam_code()))
+}
+
+/// Ends over memory and over slices, ids and a log, and what calls of them give; and errors that are no refusals: whether
+/// each is one of the network, whether a stream goes on behind it, whether it has a label, and its code. The errors inside
+/// do not speak for the one around them.
 const CALLS: &str = "memory-reads~/Ok(2)/Err(Fault)/Ok([108, 108, 111])
 slice-reads~/Ok(2)/Ok([108, 108, 111])/Ok([])
 memory-writes~/Ok(())/Err(WriteFailed)/Ok(()) [104, 101, 108, 108, 111, 33]
 slice-writes~/Ok(())/Err(WriteFailed)
 ids~010203040000000000000000 010203040000000000000001
-log~true 1 true";
+log~true 1 true
+io~true true false None
+aborted~false false false None";
 
 struct Calls;
 
 impl Subject for Calls {
     fn found(alloc: Global, about: &str) -> Result<String, Error> {
-        Ok(match about {
-            "memory-reads" => memory_reads(alloc)?,
-            "slice-reads" => slice_reads(alloc)?,
-            "memory-writes" => memory_writes(alloc)?,
-            "slice-writes" => slice_writes(alloc)?,
-            "ids" => counted(alloc)?,
-            _ => return logged(alloc),
-        })
+        match about {
+            "memory-reads" => memory_reads(alloc),
+            "slice-reads" => slice_reads(alloc),
+            "memory-writes" => memory_writes(alloc),
+            "slice-writes" => slice_writes(alloc),
+            "ids" => counted(alloc),
+            "log" => logged(alloc),
+            name => answers_of(alloc, name),
+        }
     }
 }
 
@@ -249,35 +263,13 @@ struct Errors;
 impl Subject for Errors {
     fn found(alloc: Global, name: &str) -> Result<String, Error> {
         let error = error_of(alloc, name)?;
-        Ok(format!(in alloc; "{error}")?)
+        written(format!(in alloc; "{error}"))
     }
 }
 
 #[test]
 fn texts_of_errors(rt: HostRuntime) {
     are_found::<Errors>(&rt, " ", ERRORS);
-}
-
-/// Errors that are no refusals: whether each is one of the network, whether a stream goes on behind it, whether it has a label,
-/// and its code. The errors inside do not speak for the one around them.
-const OTHERS: &str = "io~true true false None
-aborted~false false false None";
-
-struct Others;
-
-impl Subject for Others {
-    fn found(alloc: Global, name: &str) -> Result<String, Error> {
-        let error = error_of(alloc, name)?;
-        let is_lost = error.is_network_error();
-        let goes_on = error.is_resumable();
-        let is_labelled = error.contains_label("RetryableWriteError");
-        Ok(format!(in alloc; "{is_lost} {goes_on} {is_labelled} {:?}", error.sdam_code())?)
-    }
-}
-
-#[test]
-fn errors_that_are_no_refusals(rt: HostRuntime) {
-    are_found::<Others>(&rt, "~", OTHERS);
 }
 
 // Whether a change stream goes on after a refusal.
@@ -313,7 +305,7 @@ impl Subject for Resumable {
         let code = code.parse::<i32>().unwrap_or(0);
         let below = goes_on(alloc, code, label, 8)?;
         let from = goes_on(alloc, code, label, 9)?;
-        Ok(format!(in alloc; "{below} {from}")?)
+        written(format!(in alloc; "{below} {from}"))
     }
 }
 
@@ -342,8 +334,8 @@ struct Namespaces;
 impl Subject for Namespaces {
     fn found(alloc: Global, text: &str) -> Result<String, Error> {
         match &Namespace::from_str(alloc, text)? {
-            Some(name) => Ok(parts_of(alloc, &name.clone()?)?),
-            None => Ok(String::from_str(alloc, "none")?),
+            Some(name) => written(parts_of(alloc, &name.clone()?)),
+            None => owned(alloc, "none"),
         }
     }
 }

@@ -3,7 +3,7 @@ ghost use Rattle.mg_link.specs.Places.{out_at};
 ghost use Rattle.mg_store.specs.InMemory.{AreSmall};
 
 use super::{Subject, are_found};
-use crate::{document_word, insert, namespace, one_field};
+use crate::{document_word, insert, namespace, one_field, written};
 use mg_bson::{Bson, Document, RawDocumentBuf, to_bytes};
 use mg_link::{Error, ErrorKind, Link, Polled, Ticket, plain};
 use mg_ops::encode;
@@ -13,15 +13,14 @@ use std::alloc::{AllocError, Global};
 /// An insert of a document with this id.
 fn insert_of(alloc: Global, id: i32) -> Result<RawDocumentBuf, Error> {
     let documents = vec![in alloc; one_field(alloc, "_id", Bson::Int32(id))?]?;
-    let insert = insert(alloc, "coll", documents)?;
-    encode(alloc, &insert, 21, None)
+    encode(alloc, &insert(alloc, "coll", documents)?, 21, None)
 }
 
 // A reply behind so many polls.
 fn reply_word(alloc: Global, count: u32, bytes: Vec<u8>) -> Result<String, Error> {
     let reply = RawDocumentBuf::from_bytes(bytes)?;
     let word = document_word(alloc, reply.as_raw())?;
-    Ok(format!(in alloc; "{count}{word}")?)
+    written(format!(in alloc; "{count}{word}"))
 }
 
 /// How many polls of a call pend, 8 at most, and what comes of it.
@@ -33,8 +32,8 @@ fn polls_to_end(alloc: Global, link: &mut MemLink, first: Ticket) -> Result<Stri
         match link.poll(ticket) {
             Polled::Pending(given) => ticket = given,
             Polled::Reply(bytes) => return reply_word(alloc, count, bytes),
-            Polled::Failed => return Ok(format!(in alloc; "{count}/lost")?),
-            Polled::Memory => return Ok(format!(in alloc; "{count}/memory")?),
+            Polled::Failed => return written(format!(in alloc; "{count}/lost")),
+            Polled::Memory => return written(format!(in alloc; "{count}/memory")),
         }
     }
     Err(plain(ErrorKind::Io))
@@ -76,7 +75,7 @@ fn sent(alloc: Global, link: &mut MemLink, id: i32) -> Result<String, Error> {
     };
     let came = polls_to_end(alloc, link, ticket)?;
     let documents = link.store().documents(&namespace(alloc)?)?.len();
-    Ok(format!(in alloc; "{came} {:?} {documents}", last_position(link))?)
+    written(format!(in alloc; "{came} {:?} {documents}", last_position(link)))
 }
 
 // Where the step of the last call stands.
@@ -99,11 +98,10 @@ impl Subject for Fated {
         let mut seen = String::new(alloc);
         for id in 1..7 {
             let word = sent(alloc, &mut link, id)?;
-            seen.push_str(word.as_str())?;
-            seen.push_str(" ")?;
+            write!(seen, "{word} ")?;
         }
         let steps = link.store().history().len();
-        Ok(format!(in alloc; "{seen}{steps} steps")?)
+        written(format!(in alloc; "{seen}{steps} steps"))
     }
 }
 
@@ -130,7 +128,7 @@ impl Subject for Aside {
             one_field(alloc, name, Bson::Int32(1))?
         };
         let bytes = to_bytes(alloc, &command)?;
-        Ok(format!(in alloc; "{}", may_go_aside(&bytes.as_raw()))?)
+        written(format!(in alloc; "{}", may_go_aside(&bytes.as_raw())))
     }
 }
 

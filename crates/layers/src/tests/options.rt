@@ -1,11 +1,11 @@
 use super::records::shown;
 use super::{Subject, are_found, copied};
-use crate::{namespace, one_field, text};
+use crate::{namespace, one_field, text, written};
 use mg_bson::{Bson, Document, Timestamp};
 use mg_link::{
     Error, OperationTarget, ReadConcern, ReadConcernLevel, ReadPreference, SelectionCriteria,
 };
-use mg_ops::{ChangeStreamAggregate, Operation, WatchArgs};
+use mg_ops::{ChangeStreamAggregate, ChangeStreamData, Operation, WatchArgs, resume_options};
 use mg_options::{
     ChangeStreamOptions, Collation, FullDocumentBeforeChangeType, FullDocumentType, ResumeToken,
 };
@@ -87,17 +87,49 @@ fn stream(alloc: Global, place: &str) -> Result<Document, Error> {
     Ok(body)
 }
 
-// Each line is where the options stand, and what comes of them.
+fn number_of(token: Option<&ResumeToken>) -> Result<Option<i32>, Error> {
+    match token {
+        Some(token) => Ok(token.to_value()?.as_i32()),
+        None => Ok(None),
+    }
+}
+
+// Behind which tokens a stream resumes and starts again that started behind 1 and came to 2.
+fn resumed(alloc: Global, document_returned: bool) -> Result<String, Error> {
+    let start_after = ResumeToken::from_value(&Bson::Int32(1))?;
+    let args = WatchArgs {
+        pipeline: Vec::new(alloc),
+        target: OperationTarget::Cluster,
+        options: ChangeStreamOptions::builder().start_after(start_after),
+    };
+    let state = ChangeStreamData {
+        initial_operation_time: None,
+        resume_token: Some(ResumeToken::from_value(&Bson::Int32(2))?),
+        document_returned,
+    };
+    let options = resume_options(&args, &state, 21)?;
+    let resumes = number_of(options.resume_after.as_ref())?;
+    let starts = number_of(options.start_after.as_ref())?;
+    written(format!(in alloc; "{resumes:?} {starts:?}"))
+}
+
+// Each line is where the options stand, or that a stream resumes before or behind a document, and what comes of them.
 const OPTIONS: &str =
     r#"stage~fullDocument fullDocumentBeforeChange resumeAfter startAtOperationTime startAfter allChangesForCluster showExpandedEvents comment {"allChangesForCluster":true,"comment":"c","fullDocument":"updateLookup","fullDocumentBeforeChange":"required","resumeAfter":{"_data":1},"showExpandedEvents":true,"startAfter":{"_data":4},"startAtOperationTime":{"$timestamp":{"i":3,"t":2}}}
 aggregate~cursor collation comment {"collation":{"locale":"en"},"comment":"c","cursor":{"batchSize":5}}
-watch~aggregate pipeline cursor collation comment $db readConcern $readPreference {"$db":"db","$readPreference":{"mode":"nearest"},"aggregate":"coll","collation":{"locale":"en"},"comment":"c","cursor":{"batchSize":5},"pipeline":[{"$changeStream":{"allChangesForCluster":true,"comment":"c","fullDocument":"updateLookup","fullDocumentBeforeChange":"required","resumeAfter":{"_data":1},"showExpandedEvents":true,"startAfter":{"_data":4},"startAtOperationTime":{"$timestamp":{"i":3,"t":2}}}},{"$skip":1}],"readConcern":{"level":"local"}}"#;
+watch~aggregate pipeline cursor collation comment $db readConcern $readPreference {"$db":"db","$readPreference":{"mode":"nearest"},"aggregate":"coll","collation":{"locale":"en"},"comment":"c","cursor":{"batchSize":5},"pipeline":[{"$changeStream":{"allChangesForCluster":true,"comment":"c","fullDocument":"updateLookup","fullDocumentBeforeChange":"required","resumeAfter":{"_data":1},"showExpandedEvents":true,"startAfter":{"_data":4},"startAtOperationTime":{"$timestamp":{"i":3,"t":2}}}},{"$skip":1}],"readConcern":{"level":"local"}}
+resumed before~None Some(2)
+resumed behind~Some(2) None"#;
 
 struct Options;
 
 impl Subject for Options {
     fn found(alloc: Global, place: &str) -> Result<String, Error> {
-        shown(alloc, stream(alloc, place)?)
+        match place {
+            "resumed before" => resumed(alloc, false),
+            "resumed behind" => resumed(alloc, true),
+            _ => shown(alloc, stream(alloc, place)?),
+        }
     }
 }
 

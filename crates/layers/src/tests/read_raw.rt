@@ -1,5 +1,5 @@
 use super::{Subject, are_found, copied};
-use crate::{json_value, parted, text};
+use crate::{json_value, parted, text, written};
 use mg_bson::{Bson, DateTime, Document, RawDocumentBuf, to_bytes};
 use mg_link::Error;
 use mg_records::{
@@ -78,7 +78,7 @@ fn numbered(alloc: Global, word: &str) -> Result<Bson, Error> {
         "i" => json_value(alloc, digits),
         "l" => Ok(Bson::Int64(number)),
         "t" => Ok(Bson::DateTime(DateTime { millis: number })),
-        _ => Ok(text(alloc, word)?),
+        _ => text(alloc, word),
     }
 }
 
@@ -93,7 +93,7 @@ fn value_of(alloc: Global, word: &str) -> Result<Bson, Error> {
         "names" => r#"["a.b"]"#,
         "numbers" => "[1]",
         "double" => return Ok(Bson::Double([0; 8])),
-        "insert" | "name" => return Ok(text(alloc, word)?),
+        "insert" | "name" => return text(alloc, word),
         _ => return numbered(alloc, word),
     };
     json_value(alloc, json)
@@ -152,7 +152,7 @@ fn event(alloc: Global, raw: &RawDocumentBuf) -> Result<String, Error> {
     let removed = removed(&event);
     let times = times(alloc, &event)?;
     let documents = documents(alloc, &event)?;
-    Ok(format!(in alloc; "{operation} {db:?} {kind:?} {times} {documents} {removed:?}")?)
+    written(format!(in alloc; "{operation} {db:?} {kind:?} {times} {documents} {removed:?}"))
 }
 
 // A copy of a record that prints whole.
@@ -161,22 +161,22 @@ fn printed<T: ReadRaw + Clone + Debug + Drop>(
     raw: &RawDocumentBuf,
 ) -> Result<String, Error> {
     let copy: T = read(alloc, raw)?;
-    Ok(format!(in alloc; "{copy:?}")?)
+    written(format!(in alloc; "{copy:?}"))
 }
 
 fn space(alloc: Global, raw: &RawDocumentBuf) -> Result<String, Error> {
     let space: ChangeNamespace = read(alloc, raw)?;
-    Ok(format!(in alloc; "{} {:?}", space.db, space.coll)?)
+    written(format!(in alloc; "{} {:?}", space.db, space.coll))
 }
 
 fn change(alloc: Global, raw: &RawDocumentBuf) -> Result<String, Error> {
     let change: UpdateDescription = read(alloc, raw)?;
-    Ok(format!(in alloc; "{:?} {:?}", change.updated_fields, change.removed_fields)?)
+    written(format!(in alloc; "{:?} {:?}", change.updated_fields, change.removed_fields))
 }
 
 fn cut(alloc: Global, raw: &RawDocumentBuf) -> Result<String, Error> {
     let cut: TruncatedArray = read(alloc, raw)?;
-    Ok(format!(in alloc; "{} {}", cut.field, cut.new_size)?)
+    written(format!(in alloc; "{} {}", cut.field, cut.new_size))
 }
 
 struct Readings;

@@ -1,7 +1,7 @@
 use super::commands::{journaled, local, nearest};
 use super::unprinted::common;
 use super::{Subject, are_found, copied};
-use crate::{one_field, parted, text};
+use crate::{one_field, owned, parted, text, written};
 use mg_bson::{Bson, Document};
 use mg_link::{
     Acknowledgment, Error, ReadConcern, ReadPreference, SelectionCriteria, WriteConcern,
@@ -56,12 +56,12 @@ fn names_of(alloc: Global, body: &Document) -> Result<String, AllocError> {
 pub(super) fn shown(alloc: Global, body: Document) -> Result<String, Error> {
     let names = names_of(alloc, &body)?;
     let json = json_text(alloc, &Bson::Document(body))?;
-    Ok(format!(in alloc; "{names}{json}")?)
+    written(format!(in alloc; "{names}{json}"))
 }
 
 // The document `{ x: n }`.
 pub(super) fn keys(alloc: Global, n: i32) -> Result<Document, Error> {
-    Ok(one_field(alloc, "x", Bson::Int32(n))?)
+    one_field(alloc, "x", Bson::Int32(n))
 }
 
 // A collation of which everything is given.
@@ -87,41 +87,32 @@ fn rules(alloc: Global, body: &mut Document) -> Result<(), Error> {
 }
 
 fn find_bounds(alloc: Global) -> Result<FindOptions, Error> {
-    let max = keys(alloc, 1)?;
-    let min = keys(alloc, 2)?;
-    let name = String::from_str(alloc, "h")?;
-    let comment = text(alloc, "c")?;
     Ok(
         FindOptions::builder()
             .allow_disk_use(true)
             .allow_partial_results(false)
             .batch_size(5)
-            .comment(comment)
-            .hint(Hint::Name(name))
+            .comment(text(alloc, "c")?)
+            .hint(Hint::Name(owned(alloc, "h")?))
             .limit(-7)
-            .max(max)
-            .min(min),
+            .max(keys(alloc, 1)?)
+            .min(keys(alloc, 2)?),
     )
 }
 
 fn find(alloc: Global) -> Result<FindOptions, Error> {
-    let projection = keys(alloc, 3)?;
-    let sort = keys(alloc, 4)?;
-    let let_vars = keys(alloc, 5)?;
-    let locale = String::from_str(alloc, "en")?;
-    let bounds = find_bounds(alloc)?;
     Ok(
-        bounds
+        find_bounds(alloc)?
             .max_scan(8)
             .max_time(2_147_483_647)
             .no_cursor_timeout(true)
-            .projection(projection)
+            .projection(keys(alloc, 3)?)
             .return_key(false)
             .show_record_id(true)
             .skip(9)
-            .sort(sort)
-            .collation(Collation::builder(locale))
-            .let_vars(let_vars)
+            .sort(keys(alloc, 4)?)
+            .collation(Collation::builder(owned(alloc, "en")?))
+            .let_vars(keys(alloc, 5)?)
             .build(),
     )
 }

@@ -1,10 +1,10 @@
 use super::{Subject, are_found, copied};
-use crate::{document_word, find, json_bytes, namespace, one_field, parted, text};
+use crate::{document_word, find, json_bytes, namespace, one_field, parted, text, written};
 use mg_bson::{Bson, Document, RawDocumentBuf};
 use mg_link::{Error, OperationTarget, ReadPreference, SelectionCriteria};
 use mg_ops::{
-    Aggregate, ChangeStreamAggregate, Create, CursorSpecification, Delete, Find, Operation,
-    RawOutput, RunCursorCommand, Update, WatchArgs,
+    Aggregate, ChangeStreamAggregate, Create, CursorSpecification, Delete, Find, GetMore,
+    Operation, RawOutput, RunCursorCommand, Update, WatchArgs, doc_slices,
 };
 use mg_options::{
     AggregateOptions, ChangeStreamOptions, CursorType, DeleteOptions, FindOptions,
@@ -16,7 +16,7 @@ use std::alloc::Global;
 fn cursor_word(alloc: Global, opened: CursorSpecification) -> Result<String, Error> {
     let more = opened.info.get_more()?;
     let has_comment = more.comment.is_some();
-    Ok(format!(in alloc; "{:?} {:?} {has_comment}", more.batch_size, more.max_time)?)
+    written(format!(in alloc; "{:?} {:?} {has_comment}", more.batch_size, more.max_time))
 }
 
 fn deleted(alloc: Global, reply: RawDocumentBuf) -> Result<String, Error> {
@@ -26,7 +26,7 @@ fn deleted(alloc: Global, reply: RawDocumentBuf) -> Result<String, Error> {
         many: true,
         options: DeleteOptions::builder(),
     };
-    Ok(format!(in alloc; "{}", delete.read(alloc, reply)?)?)
+    written(format!(in alloc; "{}", delete.read(alloc, reply)?))
 }
 
 fn created(alloc: Global, reply: RawDocumentBuf) -> Result<String, Error> {
@@ -58,7 +58,25 @@ fn updated(alloc: Global, reply: RawDocumentBuf) -> Result<String, Error> {
         many: true,
         write_concern: None,
     };
-    Ok(format!(in alloc; "{:?}", update.read(alloc, reply)?)?)
+    written(format!(in alloc; "{:?}", update.read(alloc, reply)?))
+}
+
+// The id that a getMore gave, whether the cursor is exhausted and has no token, and how many documents came.
+fn more(alloc: Global, reply: RawDocumentBuf) -> Result<String, Error> {
+    let get_more = GetMore {
+        ns: namespace(alloc)?,
+        id: 1,
+        batch_size: None,
+        max_time: None,
+        comment: None,
+    };
+    let gave = get_more.read(alloc, reply)?;
+    let count = match doc_slices(&gave.raw_reply.as_raw()) {
+        Ok(documents) => documents.len(),
+        Err(_) => 0,
+    };
+    let has_no_token = gave.post_batch_resume_token.is_none();
+    written(format!(in alloc; "{} {} {has_no_token} {count}", gave.id, gave.exhausted))
 }
 
 // A find of at most five documents, in batches of five.
@@ -69,7 +87,7 @@ fn five(alloc: Global) -> Result<Find, Error> {
         .batch_size(5)
         .max_await_time(9)
         .comment(comment);
-    Ok(find(alloc, "coll", Document::new(alloc), options)?)
+    find(alloc, "coll", Document::new(alloc), options)
 }
 
 fn watched(alloc: Global, reply: RawDocumentBuf) -> Result<String, Error> {
@@ -108,7 +126,7 @@ fn ran(alloc: Global, reply: RawDocumentBuf) -> Result<String, Error> {
 }
 
 // Each line is an operation, the reply to it, and what comes of it: a key or a collection that is there, a write concern that
-// was not met, counts, cursors, and an id of 32 bits where one of 64 belongs.
+// was not met, counts, cursors, an id of 32 bits where one of 64 belongs, and the last batch of a cursor.
 const REPLIES: &str =
     r#"delete {"n":0,"ok":1,"writeErrors":[{"code":11000,"errmsg":"refused","index":0}]} -> write failed with code 11000: refused
 create {"n":0,"ok":1,"writeErrors":[{"code":48,"errmsg":"refused","index":0}]} -> write failed with code 48: refused
@@ -119,7 +137,8 @@ find {"cursor":{"firstBatch":[],"id":{"$int64":"7"},"ns":"db.coll"}} -> Some(6) 
 watch {"cursor":{"firstBatch":[],"id":{"$int64":"7"},"ns":"db.coll"}} -> Some(5) Some(9) true
 run {"cursor":{"firstBatch":[],"id":{"$int64":"7"},"ns":"db.coll"}} -> Some(5) Some(6) true
 find {"cursor":{"firstBatch":[],"id":7,"ns":"db.coll"}} -> invalid response: bad cursor id
-raw {"cursor":{"firstBatch":[],"id":7,"ns":"db.coll"}} -> /{"cursor":{"firstBatch":[],"id":7,"ns":"db.coll"}}"#;
+raw {"cursor":{"firstBatch":[],"id":7,"ns":"db.coll"}} -> /{"cursor":{"firstBatch":[],"id":7,"ns":"db.coll"}}
+more {"cursor":{"firstBatch":[{"x":1},{"x":2}],"id":{"$int64":"0"},"ns":"db.coll"},"ok":1} -> 0 true true 2"#;
 
 struct Replies;
 
@@ -134,6 +153,7 @@ impl Subject for Replies {
             "find" => cursor_word(alloc, five(alloc)?.read(alloc, reply)?),
             "watch" => watched(alloc, reply),
             "run" => ran(alloc, reply),
+            "more" => more(alloc, reply),
             "raw" => {
                 let output = RawOutput(five(alloc)?).read(alloc, reply)?;
                 document_word(alloc, output.as_raw())

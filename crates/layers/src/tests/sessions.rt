@@ -1,6 +1,6 @@
 use super::commands::{Commands, local_find, plain_update, watch};
 use super::{Subject, are_found};
-use crate::{one_field, parted};
+use crate::{one_field, parted, written};
 use mg_bson::Bson;
 use mg_link::{
     ClientSession, ClientSessionHandle, Error, ExplicitClientSessionHandle,
@@ -100,7 +100,7 @@ impl Subject for Retries {
             "watch" => watch(alloc)?.retry(session.as_ref()),
             _ => plain_update(alloc)?.retry(session.as_ref()),
         };
-        Ok(format!(in alloc; "{retry:?}")?)
+        written(format!(in alloc; "{retry:?}"))
     }
 }
 
@@ -125,7 +125,7 @@ fn lent_by<H: ClientSessionHandle>(alloc: Global, handle: &mut H) -> Result<Stri
 // A session that a handle owns.
 fn owned(alloc: Global) -> Result<String, Error> {
     let session = session_in(alloc, TransactionState::None)?;
-    Ok(lent_by(alloc, &mut ImplicitClientSessionHandle(Some(session)))?)
+    written(lent_by(alloc, &mut ImplicitClientSessionHandle(Some(session))))
 }
 
 // A session that stands behind a handle, and its transaction.
@@ -133,7 +133,7 @@ fn explicit(alloc: Global) -> Result<String, Error> {
     let mut session = session_in(alloc, TransactionState::Committed)?;
     let lent = lent_by(alloc, &mut ExplicitClientSessionHandle(&mut session))?;
     let state = session.transaction_state();
-    Ok(format!(in alloc; "{lent} {state:?} {}", session.transaction_number())?)
+    written(format!(in alloc; "{lent} {state:?} {}", session.transaction_number()))
 }
 
 // What a pinned connection is that is lost, and whether one that was not pinned is lost.
@@ -154,10 +154,10 @@ struct Handles;
 impl Subject for Handles {
     fn found(alloc: Global, about: &str) -> Result<String, Error> {
         match about {
-            "none" => Ok(lent_by(alloc, &mut ImplicitClientSessionHandle(None))?),
+            "none" => written(lent_by(alloc, &mut ImplicitClientSessionHandle(None))),
             "owned" => owned(alloc),
             "explicit" => explicit(alloc),
-            _ => Ok(lost(alloc)?),
+            _ => written(lost(alloc)),
         }
     }
 }

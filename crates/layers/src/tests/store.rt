@@ -1,9 +1,9 @@
 use super::changes::{CHANGES, DROPS, LISTS};
 use super::queries::{FINDS, SORTS};
 use super::{Subject, are_found};
-use crate::{bytes_at, parted};
+use crate::{bytes_at, named, parted, written};
 use mg_bson::RawDocumentBuf;
-use mg_link::{Error, Namespace};
+use mg_link::Error;
 use mg_store::Store;
 use std::alloc::Global;
 
@@ -163,15 +163,13 @@ a-watch 89000000026167677265676174650002000000630004706970656c696e65004f00000003
 fn answer_to(alloc: Global, store: &mut Store, command: &str) -> Result<String, Error> {
     let command = RawDocumentBuf::from_bytes(bytes_at(alloc, command)?)?;
     let receipt = store.perform(command.as_raw())?;
-    Ok(hex::encode(alloc, receipt.reply.as_bytes())?)
+    written(hex::encode(alloc, receipt.reply.as_bytes()))
 }
 
 // The same, and behind it the documents of `app.c`.
 fn stored_behind(alloc: Global, store: &mut Store, command: &str) -> Result<String, Error> {
     let mut digits = answer_to(alloc, store, command)?;
-    let db = String::from_str(alloc, "app")?;
-    let coll = String::from_str(alloc, "c")?;
-    for document in store.documents(&Namespace { db, coll })? {
+    for document in store.documents(&named(alloc, "app", "c")?)? {
         let bytes = hex::encode(alloc, document.as_bytes())?;
         write!(digits, " {bytes}")?;
     }
@@ -238,7 +236,7 @@ impl Subject for Open {
     fn found(alloc: Global, name: &str) -> Result<String, Error> {
         let mut store = Store::new(alloc);
         let differences = differences(alloc, &mut store, steps_of(name), name == "stored")?;
-        Ok(format!(in alloc; "{differences}{:?}", store.open_cursors()?)?)
+        written(format!(in alloc; "{differences}{:?}", store.open_cursors()?))
     }
 }
 

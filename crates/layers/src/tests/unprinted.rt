@@ -1,6 +1,7 @@
 use super::commands::{journaled, local, nearest};
 use super::records::keys;
 use super::{Subject, are_found, copied};
+use crate::written;
 use mg_bson::{Bson, Document};
 use mg_link::Error;
 use mg_options::{
@@ -38,7 +39,7 @@ pub(super) fn common(alloc: Global) -> Result<(Collation, Hint, Document, Docume
 
 // Two fields, as they print.
 fn fields<A: Debug, B: Debug>(alloc: Global, one: &A, other: &B) -> Result<String, Error> {
-    Ok(format!(in alloc; "{one:?} {other:?}")?)
+    written(format!(in alloc; "{one:?} {other:?}"))
 }
 
 fn collection(alloc: Global) -> Result<String, Error> {
@@ -192,7 +193,7 @@ fn upload(alloc: Global) -> Result<String, Error> {
 fn by_name(alloc: Global) -> Result<String, Error> {
     let options = GridFsDownloadByNameOptions::builder().revision(-2).build();
     let copy = copied(options)?;
-    Ok(format!(in alloc; "{:?}", copy.revision)?)
+    written(format!(in alloc; "{:?}", copy.revision))
 }
 
 struct Copies;

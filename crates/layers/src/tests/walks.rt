@@ -1,4 +1,5 @@
 use super::{Subject, are_found, raw_at};
+use crate::owned;
 use mg_bson::RawDocuments;
 use mg_link::Error;
 use std::alloc::Global;
@@ -41,7 +42,7 @@ impl Subject for Walks {
     fn found(alloc: Global, digits: &str) -> Result<String, Error> {
         match RawDocuments::new(raw_at(alloc, digits)?, "a", "b") {
             Some(documents) => walked(alloc, documents),
-            None => Ok(String::from_str(alloc, "none")?),
+            None => owned(alloc, "none"),
         }
     }
 }

@@ -1,5 +1,5 @@
 use super::{Subject, are_found};
-use crate::{json_value, parted};
+use crate::{json_value, owned, parted, written};
 use mg_link::{Acknowledgment, Error, ReadConcernLevel, ReadPreference};
 use mg_options::{
     CollationAlternate, CollationCaseFirst, CollationMaxVariable, CollationStrength, CommitQuorum,
@@ -74,7 +74,7 @@ return AFTER -> true"#;
 // A word that prints as itself.
 fn printed<T: Display + Drop>(alloc: Global, read: Result<T, Error>) -> Result<String, Error> {
     let value = read?;
-    Ok(format!(in alloc; "{value}")?)
+    written(format!(in alloc; "{value}"))
 }
 
 fn strength(alloc: Global, word: &str) -> Result<String, Error> {
@@ -87,13 +87,13 @@ fn preference(alloc: Global, word: &str) -> Result<String, Error> {
         Some(mode) => mode.as_word(),
         None => "none",
     };
-    Ok(String::from_str(alloc, word)?)
+    owned(alloc, word)
 }
 
 // The word of a value, and whether its list lacks the word.
 fn listed(alloc: Global, word: &str, is_other: bool) -> Result<String, Error> {
     let other = if is_other { "other " } else { "" };
-    Ok(format!(in alloc; "{other}{word}")?)
+    written(format!(in alloc; "{other}{word}"))
 }
 
 // A word of a list that keeps others.
@@ -129,7 +129,7 @@ fn kept(alloc: Global, list: &str, word: &str) -> Result<String, Error> {
 
 fn acknowledgment(alloc: Global, word: &str) -> Result<String, Error> {
     match &Acknowledgment::from_word(alloc, word)? {
-        Acknowledgment::Nodes(n) => Ok(format!(in alloc; "{n}")?),
+        Acknowledgment::Nodes(n) => written(format!(in alloc; "{n}")),
         Acknowledgment::Majority => listed(alloc, "majority", false),
         Acknowledgment::Custom(word) => listed(alloc, word.as_str(), true),
     }
@@ -138,7 +138,7 @@ fn acknowledgment(alloc: Global, word: &str) -> Result<String, Error> {
 // A quorum by its JSON text.
 fn quorum(alloc: Global, json: &str) -> Result<String, Error> {
     match &CommitQuorum::from_value(&json_value(alloc, json)?)? {
-        CommitQuorum::Nodes(n) => Ok(format!(in alloc; "{n}")?),
+        CommitQuorum::Nodes(n) => written(format!(in alloc; "{n}")),
         CommitQuorum::VotingMembers => listed(alloc, "votingMembers", false),
         CommitQuorum::Majority => listed(alloc, "majority", false),
         CommitQuorum::Custom(word) => listed(alloc, word.as_str(), true),
@@ -158,7 +158,7 @@ impl Subject for Words {
             "variable" => printed(alloc, CollationMaxVariable::from_str(alloc, word)),
             "return" => {
                 let is_new = ReturnDocument::from_word(alloc, word)?.as_bool();
-                Ok(format!(in alloc; "{is_new}")?)
+                written(format!(in alloc; "{is_new}"))
             }
             "preference" => preference(alloc, word),
             "w" => acknowledgment(alloc, word),
