@@ -251,13 +251,6 @@ fn place_of(name: &str) -> (&'static str, &'static str) {
     }
 }
 
-// What a command does, with this text for the mark `@`.
-fn filled_in(alloc: Global, name: &str, form: &str, filling: &str) -> Result<Document, Error> {
-    let json = form.replace(alloc, "@", filling)?;
-    let (command, field) = place_of(name);
-    command_with(alloc, command, "c", field, json.as_str())
-}
-
 // The mark stands for a document of one level less than the document, the modification, the value or the key that it is in.
 fn deep_form(name: &str) -> &'static str {
     match name {
@@ -273,7 +266,9 @@ fn deep_command(alloc: Global, name: &str, levels: u32) -> Result<Document, Erro
     let times = levels.saturating_sub(2);
     let opened = repeated(alloc, "", r#"{"d":"#, times, "{}")?;
     let nested = repeated(alloc, opened.as_str(), "}", times, "")?;
-    filled_in(alloc, name, deep_form(name), nested.as_str())
+    let json = deep_form(name).replace(alloc, "@", nested.as_str())?;
+    let (command, field) = place_of(name);
+    command_with(alloc, command, "c", field, json.as_str())
 }
 
 // An event that a document stands in is one level deeper than it, one that tells of set fields three deeper than their
@@ -307,13 +302,31 @@ fn levels_of_what_is_stored(rt: HostRuntime) {
     are_found::<Levels>(&rt, " -> ", LEVELS);
 }
 
-// The mark stands for a text.
-fn sized_form(name: &str) -> &'static str {
+// An update of the first document by this modification.
+fn update_of(alloc: Global, modification: Document) -> Result<Document, Error> {
+    let update = one_field(alloc, "q", Bson::Document(Document::new(alloc)))?;
+    with(update, "u", Bson::Document(modification))
+}
+
+// An update that sets a text, which brings a document to so many bytes.
+fn set_of(alloc: Global, bytes: u32) -> Result<Document, Error> {
+    let text = one_field(alloc, "p", Bson::String(padding(alloc, bytes, 22)?))?;
+    update_of(alloc, one_field(alloc, "$set", Bson::Document(text))?)
+}
+
+// An index by a name with which a list says so many bytes of it.
+fn index_of(alloc: Global, bytes: u32) -> Result<Document, Error> {
+    let index = one_field(alloc, "key", json_value(alloc, r#"{"a":1}"#)?)?;
+    with(index, "name", Bson::String(padding(alloc, bytes, 40)?))
+}
+
+// A document, an update or an index, by which so many bytes are stored.
+fn sized(alloc: Global, name: &str, bytes: u32) -> Result<Document, Error> {
     match name {
-        "insert" => r#"[{"_id":0,"p":"@"}]"#,
-        "replace" => r#"[{"q":{},"u":{"_id":0,"p":"@"}}]"#,
-        "set" => r#"[{"q":{},"u":{"$set":{"p":"@"}}}]"#,
-        _ => r#"[{"key":{"a":1},"name":"@"}]"#,
+        "insert" => padded(alloc, 0, bytes),
+        "replace" => update_of(alloc, padded(alloc, 0, bytes)?),
+        "set" => set_of(alloc, bytes),
+        _ => index_of(alloc, bytes),
     }
 }
 
@@ -322,9 +335,10 @@ fn sized_command(alloc: Global, name: &str, bytes: u32) -> Result<Document, Erro
     if name == "create" {
         return command_to(alloc, "create", "c");
     }
-    let beside = if name == "index" { 40 } else { 22 };
-    let padding = padding(alloc, bytes, beside)?;
-    filled_in(alloc, name, sized_form(name), padding.as_str())
+    let mut list = Array::new(alloc);
+    list.push(Bson::Document(sized(alloc, name, bytes)?))?;
+    let (command, field) = place_of(name);
+    with(command_to(alloc, command, "c")?, field, Bson::Array(list))
 }
 
 // How many bytes the last document of a collection has.
