@@ -2,6 +2,7 @@
 #![tactic(auto)]
 
 mod samples;
+mod tables;
 #[cfg(test)]
 mod tests;
 
@@ -9,3 +10,4 @@ pub use samples::{
     bytes_at, collection, document_word, find, insert, json_bytes, json_value, named, namespace,
     one_field, owned, parted, repeated, text, with, with_text, written,
 };
+pub use tables::{Subject, differences};

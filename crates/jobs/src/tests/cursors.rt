@@ -5,8 +5,10 @@ ghost use Rattle.mg_link.specs.Places.{out_at};
 use super::scripted::{
     advance_word, command_words, end_word, error_word, lent_word, link_of, reply_at, unanswered,
 };
-use super::{Subject, are_found, documents_of, empty_link, expect, given};
-use layers::{document_word, find, insert, json_bytes, one_field, owned, repeated, written};
+use super::{are_found, documents_of, empty_link, expect, given};
+use layers::{
+    Subject, document_word, find, insert, json_bytes, one_field, owned, repeated, written,
+};
 use mg_bson::{Bson, Document, RawDocument};
 use mg_cursor::{
     AdvancePoll, Cursor, ItemPoll, NewCursor, NextPoll, RawBatch, RawBatchCursor, SessionCursor,

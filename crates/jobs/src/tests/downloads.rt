@@ -6,8 +6,8 @@ ghost use Rattle.mg_gridfs.specs.DownloadView.{IsDownload, download_of};
 
 use super::files::{bucket, number_of, put_into, size_of, small};
 use super::scripted::error_word;
-use super::{Subject, are_found, empty_link, given};
-use layers::{insert, one_field, owned, text, with, written};
+use super::{are_found, empty_link, given};
+use layers::{Subject, insert, one_field, owned, text, with, written};
 use mg_bson::{Binary, Bson, DateTime, Document};
 use mg_gridfs::{GridFsDownloadStream, ReadPoll};
 use mg_link::{Action, Error, ErrorKind, Step, plain};

@@ -2,9 +2,9 @@ ghost use Rattle.mg_link.specs.Acts.{IsOut};
 ghost use Rattle.mg_link.specs.Exec.{ticket_of};
 ghost use Rattle.mg_link.specs.Places.{out_at};
 
+use super::are_found;
 use super::scripted::{command_words, end_word, link_of, reply_bytes, unanswered};
-use super::{Subject, are_found};
-use layers::{json_bytes, written};
+use layers::{Subject, json_bytes, written};
 use mg_bson::RawDocumentBuf;
 use mg_link::{Action, Error, ErrorKind, Exec, Retry, ScriptLink, Step, plain, verdict_of};
 use std::alloc::Global;

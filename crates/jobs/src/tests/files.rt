@@ -5,8 +5,8 @@ ghost use Rattle.mg_gridfs.specs.Uploads.{upload_ticket};
 ghost use Rattle.mg_gridfs.specs.UploadView.{IsUpload, upload_of};
 
 use super::scripted::{command_words, error_word, link_of};
-use super::{Subject, are_found, empty_link};
-use layers::{collection, owned, parted, repeated, written};
+use super::{are_found, empty_link};
+use layers::{Subject, collection, owned, parted, repeated, written};
 use mg_bson::{Bson, DateTime, RawDocument};
 use mg_gridfs::{DatabaseDefaults, GridFsBucket, GridFsUploadStream, Step2, WritePoll};
 use mg_link::{CountedIds, Error, ErrorKind, ScriptLink, plain};

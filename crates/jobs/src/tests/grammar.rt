@@ -1,5 +1,5 @@
-use super::{Subject, are_found};
-use layers::{owned, parted, repeated, written};
+use super::are_found;
+use layers::{Subject, owned, parted, repeated, written};
 use mg_jobs::{ScriptError, json_text, parse_script, value_from_json};
 use mg_link::Error;
 use serde_json::Value;

@@ -1,5 +1,5 @@
-use super::{Subject, are_found, expect};
-use layers::written;
+use super::{are_found, expect};
+use layers::{Subject, written};
 use mg_jobs::{MemSink, MemSource, run_program};
 use mg_link::Error;
 use std::alloc::{AllocError, Global};

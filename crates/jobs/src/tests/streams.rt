@@ -7,8 +7,8 @@ ghost use Rattle.mg_change.specs.StreamView.{IsPlainStream, stream_of};
 
 use super::scripted::{advance_word, command_words, end_word, event_word, link_of};
 use super::watches::args_of;
-use super::{Subject, are_found, expect};
-use layers::{owned, repeated, written};
+use super::{are_found, expect};
+use layers::{Subject, owned, repeated, written};
 use mg_bson::{Bson, Document, Timestamp};
 use mg_change::{ChangeStream, Closing, Opening};
 use mg_jobs::json_text;

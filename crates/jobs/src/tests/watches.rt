@@ -6,8 +6,8 @@ ghost use Rattle.mg_change.specs.OpeningView.{IsPlainOpening, IsSessionOpening, 
 ghost use Rattle.mg_change.specs.StreamView.{IsPlainStream, IsSessionStream, session_stream_of, stream_of};
 
 use super::scripted::{advance_word, command_words, end_word, event_word, link_of};
-use super::{Subject, are_found, empty_link};
-use layers::{json_value, namespace, one_field, owned, text, with, with_text, written};
+use super::{are_found, empty_link};
+use layers::{Subject, json_value, namespace, one_field, owned, text, with, with_text, written};
 use mg_bson::{Bson, Document, RawDocumentBuf, to_bytes};
 use mg_change::{ChangeStream, Opening, SessionChangeStream, SessionOpening};
 use mg_link::{Action, ClientSession, Error, ErrorKind, OperationTarget, ScriptLink, Step, plain};

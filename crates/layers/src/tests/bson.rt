@@ -1,5 +1,5 @@
-use super::{Subject, are_found, copied, document_at};
-use crate::{bytes_at, json_value, one_field, owned, parted, with, written};
+use super::{are_found, copied, document_at};
+use crate::{Subject, bytes_at, json_value, one_field, owned, parted, with, written};
 use mg_bson::{
     Binary, Bson, BsonError, Document, Malformation, ObjectId, RawDocument, RawDocumentBuf,
     RawValue, Regex, to_bytes, to_document,

@@ -1,7 +1,7 @@
 use super::records::{keys, shown};
 use super::sessions::session_of;
-use super::{Subject, are_found, copied, records};
-use crate::{collection, find, insert, namespace, one_field, parted, text, with};
+use super::{are_found, copied, records};
+use crate::{Subject, collection, find, insert, namespace, one_field, parted, text, with};
 use mg_bson::{Binary, Bson, Document, to_document};
 use mg_link::{
     ClientSession, Error, OperationTarget, ReadConcern, ReadConcernLevel, ReadPreference,

@@ -1,5 +1,5 @@
-use super::{Subject, are_found, document_at, raw_at};
-use crate::{json_value, one_field, parted, with, written};
+use super::{are_found, document_at, raw_at};
+use crate::{Subject, json_value, one_field, parted, with, written};
 use mg_bson::{Bson, DateTime, Document, ObjectId, RawDocument, RawValue, to_bytes};
 use mg_link::Error;
 use std::alloc::Global;

@@ -1,4 +1,5 @@
-use super::{Subject, are_found, raw_at};
+use super::{are_found, raw_at};
+use crate::Subject;
 use mg_link::Error;
 use mg_script::json_text;
 use std::alloc::Global;

@@ -1,5 +1,7 @@
-use super::{Subject, are_found};
-use crate::{json_value, named, one_field, parted, repeated, text, with, with_text, written};
+use super::are_found;
+use crate::{
+    Subject, json_value, named, one_field, parted, repeated, text, with, with_text, written,
+};
 use mg_bson::{Array, Bson, Document, RawDocument, to_bytes};
 use mg_link::{Error, Namespace, OutOfMemory};
 use mg_store::Store;

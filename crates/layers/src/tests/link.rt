@@ -1,5 +1,5 @@
-use super::{Subject, are_found};
-use crate::{owned, parted, written};
+use super::are_found;
+use crate::{Subject, owned, parted, written};
 use mg_bson::{Bson, BsonError, Document, to_bytes};
 use mg_link::{
     BadArgument, CommandError, CountedIds, Error, ErrorKind, GridFsErrorKind, GridFsFileIdentifier,

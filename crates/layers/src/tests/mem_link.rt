@@ -2,8 +2,8 @@ ghost use Rattle.std.specs.Prelude.{IfOk, IsSome};
 ghost use Rattle.mg_link.specs.Places.{out_at};
 ghost use Rattle.mg_store.specs.InMemory.{AreSmall};
 
-use super::{Subject, are_found};
-use crate::{document_word, insert, namespace, one_field, written};
+use super::are_found;
+use crate::{Subject, document_word, insert, namespace, one_field, written};
 use mg_bson::{Bson, Document, RawDocumentBuf, to_bytes};
 use mg_link::{Error, ErrorKind, Link, Polled, Ticket, plain};
 use mg_ops::encode;

@@ -1,6 +1,6 @@
 use super::records::shown;
-use super::{Subject, are_found, copied};
-use crate::{namespace, one_field, text, written};
+use super::{are_found, copied};
+use crate::{Subject, namespace, one_field, text, written};
 use mg_bson::{Bson, Document, Timestamp};
 use mg_link::{
     Error, OperationTarget, ReadConcern, ReadConcernLevel, ReadPreference, SelectionCriteria,

@@ -1,5 +1,5 @@
-use super::{Subject, are_found, copied};
-use crate::{json_value, parted, text, written};
+use super::{are_found, copied};
+use crate::{Subject, json_value, parted, text, written};
 use mg_bson::{Bson, DateTime, Document, RawDocumentBuf, to_bytes};
 use mg_link::Error;
 use mg_records::{

@@ -1,7 +1,7 @@
 use super::commands::{journaled, local, nearest};
 use super::unprinted::common;
-use super::{Subject, are_found, copied};
-use crate::{one_field, owned, parted, text, written};
+use super::{are_found, copied};
+use crate::{Subject, one_field, owned, parted, text, written};
 use mg_bson::{Bson, Document};
 use mg_link::{
     Acknowledgment, Error, ReadConcern, ReadPreference, SelectionCriteria, WriteConcern,

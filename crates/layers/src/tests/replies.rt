@@ -1,5 +1,7 @@
-use super::{Subject, are_found, copied};
-use crate::{document_word, find, json_bytes, namespace, one_field, parted, text, written};
+use super::{are_found, copied};
+use crate::{
+    Subject, document_word, find, json_bytes, namespace, one_field, parted, text, written,
+};
 use mg_bson::{Bson, Document, RawDocumentBuf};
 use mg_link::{Error, OperationTarget, ReadPreference, SelectionCriteria};
 use mg_ops::{

@@ -1,6 +1,6 @@
+use super::are_found;
 use super::commands::{Commands, local_find, plain_update, watch};
-use super::{Subject, are_found};
-use crate::{one_field, parted, written};
+use crate::{Subject, one_field, parted, written};
 use mg_bson::Bson;
 use mg_link::{
     ClientSession, ClientSessionHandle, Error, ExplicitClientSessionHandle,

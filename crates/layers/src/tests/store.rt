@@ -1,7 +1,7 @@
+use super::are_found;
 use super::changes::{CHANGES, DROPS, LISTS};
 use super::queries::{FINDS, SORTS};
-use super::{Subject, are_found};
-use crate::{bytes_at, named, parted, written};
+use crate::{Subject, bytes_at, named, parted, written};
 use mg_bson::RawDocumentBuf;
 use mg_link::Error;
 use mg_store::Store;

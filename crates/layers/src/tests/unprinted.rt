@@ -1,7 +1,7 @@
 use super::commands::{journaled, local, nearest};
 use super::records::keys;
-use super::{Subject, are_found, copied};
-use crate::written;
+use super::{are_found, copied};
+use crate::{Subject, written};
 use mg_bson::{Bson, Document};
 use mg_link::Error;
 use mg_options::{

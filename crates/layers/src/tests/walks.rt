@@ -1,5 +1,5 @@
-use super::{Subject, are_found, raw_at};
-use crate::owned;
+use super::{are_found, raw_at};
+use crate::{Subject, owned};
 use mg_bson::RawDocuments;
 use mg_link::Error;
 use std::alloc::Global;

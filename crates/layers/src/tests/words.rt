@@ -1,5 +1,5 @@
-use super::{Subject, are_found};
-use crate::{json_value, owned, parted, written};
+use super::are_found;
+use crate::{Subject, json_value, owned, parted, written};
 use mg_link::{Acknowledgment, Error, ReadConcernLevel, ReadPreference};
 use mg_options::{
     CollationAlternate, CollationCaseFirst, CollationMaxVariable, CollationStrength, CommitQuorum,
