@@ -22,7 +22,7 @@ use Rattle.mg_ops.specs.declared.change_stream.ChangeStreamData.{ChangeStreamDat
 use Rattle.mg_cursor.specs.Client.{ClientCursor, at_rest, get_more, kill}
 use Rattle.mg_change.specs.Causes.{CallFails, CallNone, Called, IsOwing, Next, Replied, Resumed, StaysSo}
 use Rattle.mg_change.specs.Causes as causes
-use Rattle.mg_change.specs.ClientStreams.{ClientStream, Doing, IsSaved, SavedFor, follows, kills, owes, remembered_empty, renewed, resumes, resuming_in, remembered}
+use Rattle.mg_change.specs.ClientStreams.{ClientStream, Doing, IsSaved, SavedFor, follows, kills, owes, remembered_empty, renewed, resumes, remembered}
 use Rattle.mg_change.specs.Sent as calling
 use Rattle.mg_change.specs.Sent.{Falling}
 use Rattle.mg_script.specs.declared.outcome.Answer.{Answer}
@@ -89,9 +89,6 @@ more_name c (Some s) = refl
 
 pub more_not_kill : (c old : ClientCursor) (session : Option Session) (fs : Fields) → fs ≡ get_more c session → fs ≡ kill old → ⊥
 more_not_kill c old session fs is also = let bad : codes "getMore" ≡ codes "killCursors" = sym (more_name c session) ∙ ap first_name (sym is ∙ also) in cc
-
-pub aggregate_not_kill : (a : ChangeStreamAggregate) (old : ClientCursor) (wire : ℤ) (session : Option Session) (fs : Fields) → fs ≡ resuming_in a wire session → fs ≡ kill old → ⊥
-aggregate_not_kill a old wire session fs is also = let bad : codes "aggregate" ≡ codes "killCursors" = ap first_name (sym is ∙ also) in cc
 
 -- ---- successes
 

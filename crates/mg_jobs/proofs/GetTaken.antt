@@ -41,7 +41,8 @@ use Rattle.mg_records.specs.FileRecords.{FileRecord}
 use Rattle.mg_players.specs.Asking.{AsksOnBy, TellsAt}
 use Rattle.mg_players.specs.Causes.{Course, FallsAt, GetStands, SentIn, has_opened, places_of, sent_at, unopened}
 use Rattle.mg_players.specs.Files.{IsStepOf}
-use Rattle.mg_players.specs.Gets.{GetTask, IsFindAt, IsGetCommand, IsListFor, chunks_find, get_bucket, more_chunks, record_find}
+use Rattle.mg_players.specs.Buckets.{plain_bucket}
+use Rattle.mg_players.specs.Gets.{GetTask, IsFindAt, IsGetCommand, IsListFor, chunks_find, more_chunks, record_find}
 use Rattle.mg_players.specs.Owned.{IsGivenBy, NamesNoOthers}
 use Rattle.mg_players.specs.Sends.{SendsOnly}
 use Rattle.mg_players.proofs.Batches.{read_as}
@@ -179,7 +180,7 @@ module _ (history : List Kept) (fates : List Fate) (kept : AreKept 0 fates) (cal
     record_meets s at id first rest is = first_meets (has_value (codes "_id") id) (documents_of s (files_space at)) first rest is
 
     -- the record that it heard has its id, as a filter takes it
-    module _ (places : List ℕ) (f : FileRecord) (h : HeardRecord (sent_at places calls wire) (get_bucket g.at) g.id (Some f)) where
+    module _ (places : List ℕ) (f : FileRecord) (h : HeardRecord (sent_at places calls wire) (plain_bucket g.at) g.id (Some f)) where
       abbrev past : Past
       past = sent_at places calls wire
 
@@ -217,7 +218,7 @@ module _ (history : List Kept) (fates : List Fate) (kept : AreKept 0 fates) (cal
               let said = record_is d x read in
               sym (same_key (codes "_id") g.id f.id d (said.id_is ∙ ap (λ (y : FileRecord). Some y.id) (sym one)) met)
 
-    find_kind : (found : Option FileRecord) (places : List ℕ) → FallsAt (IsFindAt g found) calls 5 places 1 → ((f : FileRecord) → found ≡ Some f → HeardRecord (sent_at places calls wire) (get_bucket g.at) g.id (Some f)) → (place : ℕ) (call : Call) → IsOf places place → slice_get calls place ≡ Some call → IsKind place call
+    find_kind : (found : Option FileRecord) (places : List ℕ) → FallsAt (IsFindAt g found) calls 5 places 1 → ((f : FileRecord) → found ≡ Some f → HeardRecord (sent_at places calls wire) (plain_bucket g.at) g.id (Some f)) → (place : ℕ) (call : Call) → IsOf places place → slice_get calls place ≡ Some call → IsKind place call
     find_kind found places falls heard place call of there = let x = falls_each (IsFindAt g found) calls 5 places 1 falls.falling place call of there in by_place x.0 x.1
       where
         by_record : (was : Option FileRecord) → found ≡ was → IsListFor g was (fields call.command) → IsKind place call
@@ -237,7 +238,7 @@ module _ (history : List Kept) (fates : List Fate) (kept : AreKept 0 fates) (cal
         by_stands (unopened none sent found asks) = find_kind found (places_of c i) asks.finds asks.heard place call of there
         by_stands (has_opened f o k now s) =
             elim (of_either o.places (concat s.owns ++ now) place (subst (λ (l : List ℕ). IsOf l place) (sym s.whole) of)) [
-              | inl first ↦ find_kind (Some f) o.places o.finds (λ x is. subst (λ (y : Option FileRecord). HeardRecord (sent_at o.places calls wire) (get_bucket g.at) g.id y) is o.heard) place call first there
+              | inl first ↦ find_kind (Some f) o.places o.finds (λ x is. subst (λ (y : Option FileRecord). HeardRecord (sent_at o.places calls wire) (plain_bucket g.at) g.id y) is o.heard) place call first there
               | inr behind ↦ asks_on (subst (λ (l : List ℕ). AsksOnBy calls (λ (n : ℕ). IsOf l n) place) s.whole (s.more place behind))
             ]
 

@@ -49,7 +49,8 @@ use Rattle.mg_players.specs.Causes.{AllSentIn, AreSentIn, Course, GetCaused, Get
 use Rattle.mg_jobs.specs.Completing.{AnswersWell, EndsWell, IsExcusedGet, StandsWhole, finds_record, gets_more, lists_chunks}
 use Rattle.mg_players.specs.Counts.{Faultless}
 use Rattle.mg_players.specs.Files.{IsStepOf}
-use Rattle.mg_players.specs.Gets.{GetTask, IsGetCommand, chunks_find, get_bucket, record_find}
+use Rattle.mg_players.specs.Buckets.{plain_bucket}
+use Rattle.mg_players.specs.Gets.{GetTask, IsGetCommand, chunks_find, record_find}
 use Rattle.mg_players.specs.Headline.{GetGave}
 use Rattle.mg_jobs.specs.Own.{IsHeard, IsOwnCursor}
 use Rattle.mg_players.specs.Progress.{GetPlayed}
@@ -64,7 +65,7 @@ use Rattle.mg_jobs.proofs.Filed.{all_leave, own_between}
 use Rattle.mg_players.proofs.GetBlamed.{record_result}
 use Rattle.mg_players.proofs.GetDiffering.{whole_never}
 use Rattle.mg_players.proofs.GetJudged.{WholeSays, whole_counts, whole_says}
-use Rattle.mg_players.proofs.GetListing.{list_asks, plain_bucket, told_named}
+use Rattle.mg_players.proofs.GetListing.{bucket_is_plain, list_asks, told_named}
 use Rattle.mg_players.proofs.GetSteps.{OpensBatch, TookStep, more_gives, prompt_at, query_opens, query_prompt, took}
 use Rattle.mg_players.proofs.Naming.{chunks_named}
 use Rattle.mg_players.proofs.Prompting.{IsPrompted, lawful, prompt_success}
@@ -126,10 +127,10 @@ breaks_never r x e is breaks = subst (λ q. Breaks q e) is breaks
 pub plain_size : (size : Option ℕ) (e : Error) → size ≡ None → HasBadSize size e → ⊥
 plain_size size e is bad = subst SizePasses is bad.1
 
-found_fits : (g : GetTask) (e : Error) → Refuses (first_unfit (found_lines (get_bucket g.at) g.id)) e → ⊥
+found_fits : (g : GetTask) (e : Error) → Refuses (first_unfit (found_lines (plain_bucket g.at) g.id)) e → ⊥
 found_fits g e refuses = refuses
 
-listed_fits : (g : GetTask) (id : Tree) (e : Error) → Refuses (first_unfit (listed_lines (get_bucket g.at) id)) e → ⊥
+listed_fits : (g : GetTask) (id : Tree) (e : Error) → Refuses (first_unfit (listed_lines (plain_bucket g.at) id)) e → ⊥
 listed_fits g id e refuses = refuses
 
 -- ---- what a get heard
@@ -190,14 +191,14 @@ module _ (c : Course) (i : ℕ) (begun calls : List Call) (wire : ℤ) (begun_is
   -- ---- the file
 
   module _ (g : GetTask) (named : as_database g.at.db ≡ Some g.at.db) (some : 0 < g.read) (bytes : List ℕ) (s : StandsWhole c i calls well.history g bytes) (sends : SendsOnly (IsGetCommand g) c i calls) where
-    bucket : IsPlainAt (get_bucket g.at) g.at
-    bucket = plain_bucket g (chunks_named g.at named)
+    bucket : IsPlainAt (plain_bucket g.at) g.at
+    bucket = bucket_is_plain g (chunks_named g.at named)
 
     abbrev its_query : Query
     its_query = record_query (files_space g.at) g.id
 
     find_asks : (bytes : List ℕ) → fields bytes ≡ record_find g → asked bytes ≡ asks_query its_query
-    find_asks bytes is = found_asks (get_bucket g.at) g.at bucket g.id bytes is
+    find_asks bytes is = found_asks (plain_bucket g.at) g.at bucket g.id bytes is
 
     listing_asks : (id : Tree) (bytes : List ℕ) → fields bytes ≡ chunks_find g id → asked bytes ≡ asks_query (chunks_query (chunks_space g.at) id)
     listing_asks id bytes is = list_asks g id bytes (chunks_named g.at named) is
@@ -273,7 +274,7 @@ module _ (c : Course) (i : ℕ) (begun calls : List Call) (wire : ℤ) (begun_is
           by_first (is_found t ts d f batch_is document read is) items_are = cc
 
       -- the record that it heard is that of the file
-      heard_file : (f : FileRecord) → HeardRecord seen (get_bucket g.at) g.id (Some f) → s.file ≡ f
+      heard_file : (f : FileRecord) → HeardRecord seen (plain_bucket g.at) g.id (Some f) → s.file ≡ f
       heard_file f h = by_first h.reads_so.first (stood_items h.bytes (stood h.bytes h.heard h.success) h.reads_so.said h.reads_so.says)
         where
           same_ok : (y z : FileRecord) → ◌≡◌ {A = Result FileRecord Malformed} (Ok y) (Ok z) → y ≡ z
@@ -302,7 +303,7 @@ module _ (c : Course) (i : ℕ) (begun calls : List Call) (wire : ℤ) (begun_is
               breaks_never (file_record_of d) s.file e (ap file_record_of same ∙ s.read) breaks
 
       -- what it may fail for
-      opening_well : (e : Error) → files.OpeningFails seen (get_bucket g.at) g.id e → IsExcusedGet (IsHeard c i calls) g e
+      opening_well : (e : Error) → files.OpeningFails seen (plain_bucket g.at) g.id e → IsExcusedGet (IsHeard c i calls) g e
       opening_well e (files.out_of_memory room) = inl room
       opening_well e (files.find_not_built (inl bad)) = absurd (found_fits g e bad)
       opening_well e (files.find_not_built (inr by)) = inr (record_find g, finds_record refl, by)

@@ -1,5 +1,5 @@
 -- What the replies of a store to a follow tell: the namespace of its watch, a token of a place that is there, and events with such tokens.
-use Rattle.std.proofs.Common.{◌≡◌, ◌≤◌, ℕ, ℤ, pos, Bool, true, false, List, [], ◌∷◌, map, Option, Some, None, Ok, refl, sym, ap, ◌∙◌, subst, arith}
+use Rattle.std.proofs.Common.{◌≡◌, ◌≤◌, ℕ, ℤ, pos, Bool, true, false, List, [], ◌∷◌, map, Option, Some, None, Ok, refl, sym, ap, ◌∙◌, subst}
 use Rattle.std.specs.Prelude.{codes, if◌then◌else◌, is_some, option_and_then, option_map, unwrap_or}
 use Rattle.mg_bson.specs.Tree.{Tree, Fields, field, no_fields}
 use Rattle.mg_bson.specs.Raw.{IsDocument, fields, items}
@@ -15,7 +15,7 @@ use Rattle.mg_link.proofs.Telling.{gave_reply, opened_reply, space_again}
 use Rattle.mg_ops.specs.Cursors.{Cursor, cursor_of}
 use Rattle.mg_cursor.specs.Batches.{batch_in, documents_of, or_else}
 use Rattle.mg_players.proofs.Batches.{events_are}
-use Rattle.mg_jobs.proofs.Tokened.{AreTokened, tokened_further}
+use Rattle.mg_jobs.proofs.Tokened.{AreTokened}
 
 -- the cursor is one of this watch, behind a place up to this one
 pub record TellsThere (upto : ℕ) (on : Target) (c : Cursor) : Type 0 where
@@ -82,13 +82,6 @@ left_id ended id = if ended then 0 else id
 pub left_is : (ended : Bool) (id : ℕ) → id_unless ended (pos id) ≡ pos (left_id ended id)
 left_is true id = refl
 left_is false id = refl
-
--- and what it tells stays there
-pub told_further : (a b : ℕ) (on : Target) (bytes : List ℕ) → a ≤ b → IsTold a on bytes → IsTold b on bytes
-told_further a b on bytes less t = record {
-  cursor = λ c is. let there = t.cursor c is in record { space_is = there.space_is; id = there.id; id_is = there.id_is; place = there.place; within = (let low = there.within in omega (arith, less, low)); token_is = there.token_is };
-  events = λ es is. tokened_further a b (map fields es) less (t.events es is);
-}
 
 -- ---- the reply to a killing
 

@@ -44,7 +44,7 @@ use Rattle.mg_gridfs.specs.Indexes.{space_in}
 use Rattle.mg_gridfs.specs.declared.indexes.Place.{Place}
 use Rattle.mg_jobs.specs.Own.{IsOwnCursor}
 use Rattle.mg_players.specs.InTurn.{AreInTurn, empty_by, empty_with}
-use Rattle.mg_players.specs.PutFailures.{IsListBatch, IsListed, IsOfList, brought, first_batch, held_by, held_in, last_empty, next_batch}
+use Rattle.mg_players.specs.PutFailures.{IsListBatch, IsListedIndex, IsOfList, brought, first_batch, held_by, held_in, last_empty, next_batch}
 use Rattle.mg_jobs.specs.PutLimits.{CannotPut, HasFewIndexes, a_getMore}
 use Rattle.mg_players.specs.Puts.{PutTask, put_bucket}
 use Rattle.mg_players.specs.Gets.{no_manner}
@@ -378,7 +378,7 @@ module _ (own : List ℕ) (history : List Step) (legal : IsLegal history) where
     item_at [] after document are = are.0
     item_at (x ∷ front) after document are = item_at front after document are.1
 
-    pub index_well : (document : List ℕ) (e : Error) → IsListed past B document → FailsToRead (recorded (index_of (fields document))) e → e.kind ≡ kind.OutOfMemory
+    pub index_well : (document : List ℕ) (e : Error) → IsListedIndex past B document → FailsToRead (recorded (index_of (fields document))) e → e.kind ≡ kind.OutOfMemory
     index_well document e l fails =
         let h = batch_holds l.bytes l.batch in
         let these : map fields (l.front ++ document ∷ l.after) ≡ h.batch.events = events_are l.bytes h.batch (l.front ++ document ∷ l.after) h.there l.holds in

@@ -101,10 +101,6 @@ abbrev pub AreTokened : ℕ → List Fields → Type 0
 AreTokened upto [] = Unit {0}
 AreTokened upto (e ∷ es) = IsTokened upto e × AreTokened upto es
 
-pub tokened_further : (a b : ℕ) (es : List Fields) → a ≤ b → AreTokened a es → AreTokened b es
-tokened_further a b [] less t = tt
-tokened_further a b (e ∷ es) less t = (record { place = t.0.place; within = (let low = t.0.within in omega (arith, less, low)); id = t.0.id }, tokened_further a b es less t.1)
-
 abbrev EntriesTokened : ℕ → List Entry → Type 0
 EntriesTokened upto [] = Unit {0}
 EntriesTokened upto (e ∷ es) = IsTokened upto e.event × EntriesTokened upto es

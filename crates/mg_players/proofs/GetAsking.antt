@@ -29,7 +29,8 @@ use Rattle.mg_gridfs.specs.Findings.{BeginsFind, ClientFinding, FindsOn, HearsLi
 use Rattle.mg_gridfs.specs.ReadCauses.{HeardRecord, IsOpening, LookingUnderway}
 use Rattle.mg_gridfs.proofs.Opened.{record_grows}
 use Rattle.mg_players.specs.Causes.{FallsAt, commands_at, sent_at, sent_since}
-use Rattle.mg_players.specs.Gets.{GetTask, IsFindAt, IsGetCommand, IsListFor, IsOpeningFor, chunks_find, for_chunks, for_record, get_bucket, record_find}
+use Rattle.mg_players.specs.Buckets.{plain_bucket}
+use Rattle.mg_players.specs.Gets.{GetTask, IsFindAt, IsGetCommand, IsListFor, IsOpeningFor, chunks_find, for_chunks, for_record, record_find}
 use Rattle.mg_players.specs.Telling.{FindsSoFar, finding_places, found_in}
 use Rattle.mg_players.proofs.Adding.{adds_sent}
 use Rattle.mg_players.proofs.Commands.{falls_more}
@@ -96,36 +97,36 @@ module _ (g : GetTask) (places : List ℕ) (since : ℕ) (wire : ℤ) where
     tried : Tried (IsFindAt g found) log log' n (places_behind r)
     calls : List Call
     told : log' ≡ Some calls
-    heard : (f : FileRecord) → found ≡ Some f → HeardRecord (past_of places since calls wire) (get_bucket g.at) g.id (Some f)
+    heard : (f : FileRecord) → found ≡ Some f → HeardRecord (past_of places since calls wire) (plain_bucket g.at) g.id (Some f)
 
   -- of a record that was heard
-  its_record : (calls : List Call) (f : FileRecord) → HeardRecord (past_of places since calls wire) (get_bucket g.at) g.id (Some f) → (x : FileRecord) → Some f ≡ Some x → HeardRecord (past_of places since calls wire) (get_bucket g.at) g.id (Some x)
-  its_record calls f heard x is = subst (λ (y : Option FileRecord). HeardRecord (past_of places since calls wire) (get_bucket g.at) g.id y) is heard
+  its_record : (calls : List Call) (f : FileRecord) → HeardRecord (past_of places since calls wire) (plain_bucket g.at) g.id (Some f) → (x : FileRecord) → Some f ≡ Some x → HeardRecord (past_of places since calls wire) (plain_bucket g.at) g.id (Some x)
+  its_record calls f heard x is = subst (λ (y : Option FileRecord). HeardRecord (past_of places since calls wire) (plain_bucket g.at) g.id y) is heard
 
-  no_record : (calls : List Call) (x : FileRecord) → None ≡ Some x → HeardRecord (past_of places since calls wire) (get_bucket g.at) g.id (Some x)
+  no_record : (calls : List Call) (x : FileRecord) → None ≡ Some x → HeardRecord (past_of places since calls wire) (plain_bucket g.at) g.id (Some x)
   no_record calls x is = let bad : None ≡ Some x = is in absurd cc
 
   -- nothing was sent
   quietly : (old new : Awaited) (log log' : LogTold) (calls : List Call) (found : Option FileRecord) (n : ℕ) (r q : Opened) → log ≡ Some calls → SendsNothing old new log log' → r ≡ q → IsFoundBy found q → places_behind q ≤ n
-      → ((f : FileRecord) → found ≡ Some f → HeardRecord (past_of places since calls wire) (get_bucket g.at) g.id (Some f)) → Asked log log' None n r
+      → ((f : FileRecord) → found ≡ Some f → HeardRecord (past_of places since calls wire) (plain_bucket g.at) g.id (Some f)) → Asked log log' None n r
   quietly old new log log' calls found n r q told none is by less heard =
       subst (Asked log log' None n) (sym is)
       (record { found = found; by = by; kept = none_kept found; tried = tried_still (IsFindAt g found) log log' n (places_behind q) none.log_same less; calls = calls; told = none.log_same ∙ told; heard = heard })
 
   module _ (b : ClientBucket) (plain : IsPlainAt b g.at) (id : Tree) (same : id ≡ g.id) where
     is_find : (command : Fields) → command ≡ fields_in (found_lines b id) → command ≡ record_find g
-    is_find command is = is ∙ ap fields_in (found_same g b id plain) ∙ ap (λ (x : Tree). fields_in (found_lines (get_bucket g.at) x)) same
+    is_find command is = is ∙ ap fields_in (found_same g b id plain) ∙ ap (λ (x : Tree). fields_in (found_lines (plain_bucket g.at) x)) same
 
     is_list : (x : Tree) (command : Fields) → command ≡ fields_in (listed_lines b x) → command ≡ chunks_find g x
     is_list x command is = is ∙ ap fields_in (listed_same g b x plain)
 
-    heard_its : (calls : List Call) (f : FileRecord) → HeardRecord (past_of places since calls wire) b id (Some f) → HeardRecord (past_of places since calls wire) (get_bucket g.at) g.id (Some f)
-    heard_its calls f h = subst (λ (x : Tree). HeardRecord (past_of places since calls wire) (get_bucket g.at) x (Some f)) same (heard_same (past_of places since calls wire) g b id (Some f) plain h)
+    heard_its : (calls : List Call) (f : FileRecord) → HeardRecord (past_of places since calls wire) b id (Some f) → HeardRecord (past_of places since calls wire) (plain_bucket g.at) g.id (Some f)
+    heard_its calls f h = subst (λ (x : Tree). HeardRecord (past_of places since calls wire) (plain_bucket g.at) x (Some f)) same (heard_same (past_of places since calls wire) g b id (Some f) plain h)
 
     -- ---- the list of chunks
 
     module _ (old new : Awaited) (log log' : LogTold) (f : FileRecord) (count : ℕ) (s : Sending) (r : Opened) (was : Option FileRecord) (kept : IsKept was (Some f)) (calls' : List Call) (told' : log' ≡ Some calls')
-        (heard : HeardRecord (past_of places since calls' wire) (get_bucket g.at) g.id (Some f)) (at : IsFindAt g (Some f) 2 (fields s.command)) where
+        (heard : HeardRecord (past_of places since calls' wire) (plain_bucket g.at) g.id (Some f)) (at : IsFindAt g (Some f) 2 (fields s.command)) where
       list_by : (q : Opened) → r ≡ q → IsFoundBy (Some f) q → Tried (IsFindAt g (Some f)) log log' (resuming_places s.stage) (places_behind q) → Asked log log' was (resuming_places s.stage) r
       list_by q is by tried = subst (Asked log log' was (resuming_places s.stage)) (sym is) (record { found = Some f; by = by; kept = kept; tried = tried; calls = calls'; told = told'; heard = its_record calls' f heard })
 
@@ -225,7 +226,7 @@ pub record FindsBy (calls : List Call) (wire : ℤ) (g : GetTask) (places : List
   pub found : Option FileRecord
   pub by : IsFoundBy found r
   pub falls : FallsAt (IsFindAt g found) calls 5 places (places_behind r)
-  pub heard : (f : FileRecord) → found ≡ Some f → HeardRecord (sent_at places calls wire) (get_bucket g.at) g.id (Some f)
+  pub heard : (f : FileRecord) → found ≡ Some f → HeardRecord (sent_at places calls wire) (plain_bucket g.at) g.id (Some f)
 
 module _ (g : GetTask) (some : 0 < g.read) where
   -- each find is one that a get may send
@@ -281,8 +282,8 @@ module _ (g : GetTask) (old new : Awaited) (log log' : LogTold) (wire : ℤ) (o 
             (falls_kept g (found_in o.doing) found asked.kept calls 5 now (finding_places o.doing) before) asked.tried.adds asked.tried.falling;
         heard = λ f is.
             let same : asked.calls ≡ calls' = same_some asked.calls calls' (sym asked.told ∙ told') in
-            let here : HeardRecord (past_of now (length calls) calls' wire) (get_bucket g.at) g.id (Some f) = subst (λ (l : List Call). HeardRecord (past_of now (length calls) l wire) (get_bucket g.at) g.id (Some f)) same (asked.heard f is) in
-            record_grows (past_of now (length calls) calls' wire) (sent_at (sent_since now (length calls) (length calls')) calls' wire) (grows_ended now (length calls) calls' wire) (get_bucket g.at) g.id (Some f) here;
+            let here : HeardRecord (past_of now (length calls) calls' wire) (plain_bucket g.at) g.id (Some f) = subst (λ (l : List Call). HeardRecord (past_of now (length calls) l wire) (plain_bucket g.at) g.id (Some f)) same (asked.heard f is) in
+            record_grows (past_of now (length calls) calls' wire) (sent_at (sent_since now (length calls) (length calls')) calls' wire) (grows_ended now (length calls) calls' wire) (plain_bucket g.at) g.id (Some f) here;
       }
 
   -- They are such as a get may send.

@@ -50,7 +50,8 @@ use Rattle.mg_gridfs.proofs.OpeningKnown.{found_asks}
 use Rattle.mg_players.specs.Causes as causes
 use Rattle.mg_players.specs.Causes.{Course, GetFails, sent_at}
 use Rattle.mg_players.specs.Files.{AsksAt, BlamesChunk}
-use Rattle.mg_players.specs.Gets.{GetTask, get_bucket, record_find}
+use Rattle.mg_players.specs.Buckets.{plain_bucket}
+use Rattle.mg_players.specs.Gets.{GetTask, record_find}
 use Rattle.mg_players.specs.Plays.{Places, all_places}
 use Rattle.mg_players.specs.Reading as stops
 use Rattle.mg_players.specs.Reading.{ListsOther, ReadStops}
@@ -58,7 +59,7 @@ use Rattle.mg_players.specs.Telling as tells
 use Rattle.mg_players.specs.Telling.{TellsGetFails, TellsGetOpened}
 use Rattle.mg_players.proofs.Batches.{read_as}
 use Rattle.mg_players.proofs.GetJudged.{paired}
-use Rattle.mg_players.proofs.GetListing.{plain_bucket, those_same}
+use Rattle.mg_players.proofs.GetListing.{bucket_is_plain, those_same}
 use Rattle.mg_players.proofs.GetSteps.{after_reads, query_opens, took}
 use Rattle.mg_players.proofs.Prompting.{lawful_at}
 
@@ -152,14 +153,14 @@ unsent_blames lines e (inr by) b = blames_by e kind.BsonSerialization by.0 b
 
 -- ---- what a get that blames one told
 
-opening_blames : (past : Past) (g : GetTask) (e : Error) → files.OpeningFails past (get_bucket g.at) g.id e → BlamesChunk e.kind → ⊥
+opening_blames : (past : Past) (g : GetTask) (e : Error) → files.OpeningFails past (plain_bucket g.at) g.id e → BlamesChunk e.kind → ⊥
 opening_blames past g e (files.out_of_memory room) b = no_memory_blames e room b
-opening_blames past g e (files.find_not_built cannot) b = unsent_blames (found_lines (get_bucket g.at) g.id) e cannot b
+opening_blames past g e (files.find_not_built cannot) b = unsent_blames (found_lines (plain_bucket g.at) g.id) e cannot b
 opening_blames past g e (files.by_find fails) b = request_blames past (record_find g) true TellsNoRecord e (λ bytes breaks. record_blames bytes e breaks b) fails b
 opening_blames past g e (files.not_found h none) b = blames_by e (kind.GridFs (grid.FileNotFound (identifier.Id none.value))) none.error b
 opening_blames past g e (files.too_many f h breaks) b = count_blames f.length f.chunk_size e breaks b
-opening_blames past g e (files.list_not_built f h cannot) b = unsent_blames (listed_lines (get_bucket g.at) f.id) e cannot b
-opening_blames past g e (files.by_list f h fails) b = request_blames past (fields_in (listed_lines (get_bucket g.at) f.id)) true TellsNoCursor e (λ bytes breaks. broken_blames (fields bytes) e breaks b) fails b
+opening_blames past g e (files.list_not_built f h cannot) b = unsent_blames (listed_lines (plain_bucket g.at) f.id) e cannot b
+opening_blames past g e (files.by_list f h fails) b = request_blames past (fields_in (listed_lines (plain_bucket g.at) f.id)) true TellsNoCursor e (λ bytes breaks. broken_blames (fields bytes) e breaks b) fails b
 
 stops_other : {many : Type 0} (past : Past) (other : Type 0) (e : Error) → ReadStops past many other e → BlamesChunk e.kind → other
 stops_other past other e (stops.no_memory room) b = absurd (no_memory_blames e room b)
@@ -245,7 +246,7 @@ find_step past history legal stands g named bytes h success =
     let t = took past history stands (record_find g) bytes h in
     let s : State = state_of (take t.position history) in
     let l = lawful_at history t.position t.step legal t.there in
-    let asks = found_asks (get_bucket g.at) g.at (plain_bucket g named) g.id t.step.command t.command_is in
+    let asks = found_asks (plain_bucket g.at) g.at (bucket_is_plain g named) g.id t.step.command t.command_is in
     let o = query_opens t.step l (subst IsSuccess t.reply_is success) q asks in
     let there : batch_of (fields bytes) ≡ Some o.batch = ap (λ (b : List ℕ). batch_of (fields b)) t.reply_is ∙ o.there in
     let r = read_as (fields bytes) o.batch there in
@@ -275,7 +276,7 @@ pub record FoundAt (past : Past) (history : List Step) (g : GetTask) (f : FileRe
   pub stood : (file_of (state_of (take (suc position) history)) g.at g.id).records ≡ first ∷ more
   pub reads_as : file_record_of first ≡ Ok f
 
-pub found_at : (past : Past) (history : List Step) → IsLegal history → Stands past.calls history → (g : GetTask) → IsNamed (chunks_space g.at) → (f : FileRecord) → HeardRecord past (get_bucket g.at) g.id (Some f) → FoundAt past history g f
+pub found_at : (past : Past) (history : List Step) → IsLegal history → Stands past.calls history → (g : GetTask) → IsNamed (chunks_space g.at) → (f : FileRecord) → HeardRecord past (plain_bucket g.at) g.id (Some f) → FoundAt past history g f
 found_at past history legal stands g named f h =
     let s = find_step past history legal stands g named h.bytes h.heard h.success in
     let x = first_read h.reads_so.said.batch f s.batch.events h.reads_so.first (s.items h.reads_so.said h.reads_so.says) in

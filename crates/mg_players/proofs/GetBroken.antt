@@ -40,7 +40,8 @@ use Rattle.mg_gridfs.specs.ReadCauses as files
 use Rattle.mg_gridfs.specs.ReadCauses.{TellsNoRecord}
 use Rattle.mg_players.specs.Causes.{sent_at}
 use Rattle.mg_players.specs.Files.{AsksAt, SaysBroken}
-use Rattle.mg_players.specs.Gets.{GetTask, chunks_find, get_bucket, record_find}
+use Rattle.mg_players.specs.Buckets.{plain_bucket}
+use Rattle.mg_players.specs.Gets.{GetTask, chunks_find, record_find}
 use Rattle.mg_players.specs.Plays.{Places, all_places}
 use Rattle.mg_players.specs.Reading as stops
 use Rattle.mg_players.specs.Reading.{IsTold, ListsOther, ReadStops}
@@ -136,13 +137,13 @@ module _ (past : Past) (history : List Step) (legal : IsLegal history) (stands :
             let first = first_taken (file_of (state_of (take (suc s.position) history)) g.at g.id).records (p.more ++ s.left) p.x (s.stood ∙ ap (λ (l : List Fields). l ++ s.left) (sym p.these)) in
             record_broke s.position s.step s.finds p.x first.0 first.1 (subst (λ (x : Fields). Breaks (file_record_of x) e) same breaks)
 
-    opening_says : (e : Error) → files.OpeningFails past (get_bucket g.at) g.id e → SaysBroken e.kind → Broke past history g e
+    opening_says : (e : Error) → files.OpeningFails past (plain_bucket g.at) g.id e → SaysBroken e.kind → Broke past history g e
     opening_says e (files.out_of_memory room) b = absurd (memory_says e room b)
-    opening_says e (files.find_not_built cannot) b = absurd (unsent_says (found_lines (get_bucket g.at) g.id) e cannot b)
+    opening_says e (files.find_not_built cannot) b = absurd (unsent_says (found_lines (plain_bucket g.at) g.id) e cannot b)
     opening_says e (files.by_find fails) b = request_says (record_find g) true TellsNoRecord (Broke past history g e) e (λ bytes h success breaks. record_says bytes h success e breaks) fails b
     opening_says e (files.not_found h none) b = absurd (says_by e (kind.GridFs (grid.FileNotFound (identifier.Id none.value))) none.error b)
     opening_says e (files.too_many f h breaks) b = let x = found_at past history legal stands g named f h in count_broke x.position x.step x.finds x.first x.more x.stood f x.reads_as breaks
-    opening_says e (files.list_not_built f h cannot) b = absurd (unsent_says (listed_lines (get_bucket g.at) f.id) e cannot b)
+    opening_says e (files.list_not_built f h cannot) b = absurd (unsent_says (listed_lines (plain_bucket g.at) f.id) e cannot b)
     opening_says e (files.by_list f h fails) b = absurd (request_says (chunks_find g f.id) true TellsNoCursor ⊥ e (λ bytes heard success breaks. list_tells f bytes heard success e breaks) fails b)
 
   -- a getMore has its batch

@@ -33,7 +33,8 @@ use Rattle.mg_script.specs.declared.outcome.Ended.TheVariants as ended
 use Rattle.mg_players.specs.Asking.{AllAskOn}
 use Rattle.mg_players.specs.Causes as causes
 use Rattle.mg_players.specs.Causes.{AllSentIn, AreSentIn, Course, FallsAt, OpeningAsks, GetCaused, GetFails, GetOpened, GetSent, GetStands, GetWaits, places_of, sent_at}
-use Rattle.mg_players.specs.Gets.{GetTask, IsFindAt, IsOpeningFor, get_bucket, get_end, more_chunks, no_manner, room_of}
+use Rattle.mg_players.specs.Buckets.{plain_bucket}
+use Rattle.mg_players.specs.Gets.{GetTask, IsFindAt, IsOpeningFor, get_end, more_chunks, no_manner, room_of}
 use Rattle.mg_players.specs.Plays.{Places, all_places}
 use Rattle.mg_players.specs.Progress.{FitsReads, GetEndedAt, GetStageAt, pends_last, turns_done}
 use Rattle.mg_players.specs.Telling as tells
@@ -47,7 +48,7 @@ use Rattle.mg_players.proofs.Telling.{in_either}
 
 -- ---- the record that was heard, by the words of a bucket that is a copy
 
-pub heard_same : (past : Past) (g : GetTask) (b : ClientBucket) (id : Tree) (found : Option FileRecord) → IsPlainAt b g.at → HeardRecord past b id found → HeardRecord past (get_bucket g.at) id found
+pub heard_same : (past : Past) (g : GetTask) (b : ClientBucket) (id : Tree) (found : Option FileRecord) → IsPlainAt b g.at → HeardRecord past b id found → HeardRecord past (plain_bucket g.at) id found
 heard_same past g b id found is h = record { bytes = h.bytes; heard = subst (λ (lines : List Line). HeardBy past (fields_in lines) (reply h.bytes)) (found_same g b id is) h.heard; success = h.success; reads_so = h.reads_so }
 
 -- ---- all that it sent
@@ -144,13 +145,13 @@ module _ (c : Course) (i : ℕ) (calls : List Call) (wire : ℤ) (q : Places) (g
 -- ---- what it heard
 
 module _ (past : Past) (g : GetTask) where
-  looking_heard : (awaited : Awaited) (b : ClientBucket) (id : Tree) (doing : Looking) → id ≡ g.id → IsPlainAt b g.at → LookingUnderway awaited past b id doing → (f : FileRecord) → found_in doing ≡ Some f → HeardRecord past (get_bucket g.at) g.id (Some f)
+  looking_heard : (awaited : Awaited) (b : ClientBucket) (id : Tree) (doing : Looking) → id ≡ g.id → IsPlainAt b g.at → LookingUnderway awaited past b id doing → (f : FileRecord) → found_in doing ≡ Some f → HeardRecord past (plain_bucket g.at) g.id (Some f)
   looking_heard awaited b id findings.starts same is h f found = let bad : None ≡ Some f = found in absurd cc
   looking_heard awaited b id (findings.finds sending) same is h f found = let bad : None ≡ Some f = found in absurd cc
   looking_heard awaited b id (findings.lists file count sending) same is h f found =
-      subst (HeardRecord past (get_bucket g.at) g.id) found (subst (λ (x : Tree). HeardRecord past (get_bucket g.at) x (Some file)) same (heard_same past g b id (Some file) is h.1))
+      subst (HeardRecord past (plain_bucket g.at) g.id) found (subst (λ (x : Tree). HeardRecord past (plain_bucket g.at) x (Some file)) same (heard_same past g b id (Some file) is h.1))
 
-  opening_heard : (awaited : Awaited) (o : ClientFinding) (bucket : Option ClientBucket) → o.bucket ≡ bucket → IsOpeningFor g o → IsSoundFinding o → IsOpening awaited past o → (f : FileRecord) → found_in o.doing ≡ Some f → HeardRecord past (get_bucket g.at) g.id (Some f)
+  opening_heard : (awaited : Awaited) (o : ClientFinding) (bucket : Option ClientBucket) → o.bucket ≡ bucket → IsOpeningFor g o → IsSoundFinding o → IsOpening awaited past o → (f : FileRecord) → found_in o.doing ≡ Some f → HeardRecord past (plain_bucket g.at) g.id (Some f)
   opening_heard awaited o None is aim sound h f found = let bad : None ≡ Some f = sym (ap found_in (sound.none is)) ∙ found in absurd cc
   opening_heard awaited o (Some b) is aim sound h f found = looking_heard awaited b o.id o.doing aim.id_is (aim.placed b is) (h b is) f found
 
@@ -161,12 +162,12 @@ module _ (awaited : Awaited) (c : Course) (i : ℕ) (calls : List Call) (wire : 
   looking_waits b id findings.starts sent whole same is held h = none_held held
   looking_waits b id (findings.finds sending) sent whole same is held h =
       causes.for_record q.now sent
-      (subst (λ (x : Tree). IsAwaited awaited (sent_at q.now calls wire) (fields_in (found_lines (get_bucket g.at) x))) same
+      (subst (λ (x : Tree). IsAwaited awaited (sent_at q.now calls wire) (fields_in (found_lines (plain_bucket g.at) x))) same
       (subst (λ (lines : List Line). IsAwaited awaited (sent_at q.now calls wire) (fields_in lines)) (found_same g b id is) (awaited_by awaited (sent_at q.now calls wire) (fields_in (found_lines b id)) sending.stage h held)))
       whole
   looking_waits b id (findings.lists file count sending) sent whole same is held h =
       causes.for_chunks q.now sent file
-      (subst (λ (x : Tree). HeardRecord (sent_at q.now calls wire) (get_bucket g.at) x (Some file)) same (heard_same (sent_at q.now calls wire) g b id (Some file) is h.1))
+      (subst (λ (x : Tree). HeardRecord (sent_at q.now calls wire) (plain_bucket g.at) x (Some file)) same (heard_same (sent_at q.now calls wire) g b id (Some file) is h.1))
       (subst (λ (lines : List Line). IsAwaited awaited (sent_at q.now calls wire) (fields_in lines)) (listed_same g b file.id is) (awaited_by awaited (sent_at q.now calls wire) (fields_in (listed_lines b file.id)) sending.stage h.0 held))
       whole
 

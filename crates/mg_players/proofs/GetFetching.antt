@@ -51,7 +51,7 @@ use Rattle.mg_gridfs.proofs.Received.{batch_is, received_behind, reply_documents
 use Rattle.mg_players.specs.Gets.{GetTask, chunks_find}
 use Rattle.mg_players.specs.Reading as stops
 use Rattle.mg_players.specs.InTurn.{empty_with, newest}
-use Rattle.mg_players.specs.Reading.{CountsRow, HeardEmpty, HeardHeld, IsListed, IsQueried, ListsOther, ReadStops, WherePrompt, empties}
+use Rattle.mg_players.specs.Reading.{CountsRow, HeardEmpty, HeardHeld, ListsChunks, IsQueried, ListsOther, ReadStops, WherePrompt, empties}
 use Rattle.mg_players.proofs.GetCounting.{count_behind, count_of, counts_behind, counts_waiting, few_behind, heard_too_many, none_in_batch, took_on}
 use Rattle.mg_players.proofs.GetDiffering.{batch_differs}
 use Rattle.mg_players.proofs.GetListing.{batch_there, differs_by, documents_same, documents_there, list_asks, list_step, more_step, told_named}
@@ -98,10 +98,10 @@ batch_source c c' reply (from_reply none may said says is) = inr may.held
 
 module _ (g : GetTask) where
   -- where it goes quietly
-  quiet_listed : (past : Past) (d : ClientDownload) (empty : ℕ) (c c' : ClientCursor) → GoesQuietly c c' → IsListed past g d.file empty c → IsListed past g d.file empty c'
-  quiet_listed past d empty c c' (inl same) l = subst (λ (x : ClientCursor). IsListed past g d.file empty x) (sym same) l
+  quiet_listed : (past : Past) (d : ClientDownload) (empty : ℕ) (c c' : ClientCursor) → GoesQuietly c c' → ListsChunks past g d.file empty c → ListsChunks past g d.file empty c'
+  quiet_listed past d empty c c' (inl same) l = subst (λ (x : ClientCursor). ListsChunks past g d.file empty x) (sym same) l
   quiet_listed past d empty c c' (inr asks) l =
-      subst (λ (x : ClientCursor). IsListed past g d.file empty x) (sym asks.1)
+      subst (λ (x : ClientCursor). ListsChunks past g d.file empty x) (sym asks.1)
       (record {
         named = l.named;
         told = record { command = l.told.command; bytes = l.told.bytes; heard = l.told.heard; said = l.told.said; says = l.told.says; id_is = l.told.id_is; space_is = l.told.space_is; plain = l.told.plain };
@@ -111,7 +111,7 @@ module _ (g : GetTask) where
       })
 
   -- behind no empty reply
-  listed_first : (past : Past) (d : ClientDownload) (empty : ℕ) (c : ClientCursor) → c.doing ≡ client.rests → IsListed past g d.file empty c → IsListed past g d.file 0 c
+  listed_first : (past : Past) (d : ClientDownload) (empty : ℕ) (c : ClientCursor) → c.doing ≡ client.rests → ListsChunks past g d.file empty c → ListsChunks past g d.file 0 c
   listed_first past d empty c rests l = record {
     named = l.named;
     told = l.told;
@@ -122,7 +122,7 @@ module _ (g : GetTask) where
 
 -- ---- behind a batch
 
-module _ (g : GetTask) (past : Past) (f : FileRecord) (empty : ℕ) (c : ClientCursor) (l : IsListed past g f empty c) (reply : List ℕ) where
+module _ (g : GetTask) (past : Past) (f : FileRecord) (empty : ℕ) (c : ClientCursor) (l : ListsChunks past g f empty c) (reply : List ℕ) where
   -- the batch that a reply told, in each legal history
   batch_legal : (c.doing ≡ client.holds reply) ⊎ HeardMore past c reply → (history : List Step) → IsLegal history → Stands past.calls history → (b : Batch) × (batch_of (fields reply) ≡ Some b)
   batch_legal (inl at) history legal stands =
@@ -171,9 +171,9 @@ module _ (g : GetTask) (past : Past) (f : FileRecord) (empty : ℕ) (c : ClientC
       ]
 
   -- the cursor behind it, where so many were empty since
-  listed_behind : (c' : ClientCursor) (empty' : ℕ) → advancing.Passes (HeardMore past c reply) reply c c' → (1 ≤ empty' → batch_documents reply ≡ []) → IsListed past g f empty' c'
+  listed_behind : (c' : ClientCursor) (empty' : ℕ) → advancing.Passes (HeardMore past c reply) reply c c' → (1 ≤ empty' → batch_documents reply ≡ []) → ListsChunks past g f empty' c'
   listed_behind c' empty' (advancing.was_held at is) none =
-      subst (λ (x : ClientCursor). IsListed past g f empty' x) (sym is)
+      subst (λ (x : ClientCursor). ListsChunks past g f empty' x) (sym is)
       (record {
         named = l.named;
         told = record { command = l.told.command; bytes = l.told.bytes; heard = l.told.heard; said = l.told.said; says = l.told.says; id_is = l.told.id_is; space_is = l.told.space_is; plain = l.told.plain };
@@ -182,7 +182,7 @@ module _ (g : GetTask) (past : Past) (f : FileRecord) (empty : ℕ) (c : ClientC
         over = λ some. held_over at (none some);
       })
   listed_behind c' empty' (advancing.by_reply said h says is) none =
-      subst (λ (x : ClientCursor). IsListed past g f empty' x) (sym is)
+      subst (λ (x : ClientCursor). ListsChunks past g f empty' x) (sym is)
       (record {
         named = l.named;
         told = record { command = get_more c h.session; bytes = reply; heard = h.heard; said = said; says = says; id_is = refl; space_is = refl; plain = l.told.plain };
@@ -224,8 +224,8 @@ none_received f n cs (d ∷ ds) is a = absurd (subst (λ (l : List (List ℕ)). 
 module _ (g : GetTask) (P : List ℕ) (L : ℕ) (wire : ℤ) (bytes : List ℕ) (place listed : ℕ) (N : List ℕ) (begun : ClientCursor) where
   -- what has come of it
   abbrev pub FetchStops : Awaited → List Call → ClientDownload → ClientDownload → Fetched → Type 0
-  FetchStops new calls d d' waits = (c : ClientCursor) × (m : ℕ) × (k : ℕ) × (d'.doing ≡ reads c m k) × IsListed (past_of P L calls wire) g d.file k c × HeardHeld (past_of P L calls wire) g d.file begun × CountsRow new (past_of N L calls wire) begun c k
-  FetchStops new calls d d' enough = (c : ClientCursor) × (d'.doing ≡ idle c) × IsListed (past_of P L calls wire) g d.file 0 c
+  FetchStops new calls d d' waits = (c : ClientCursor) × (m : ℕ) × (k : ℕ) × (d'.doing ≡ reads c m k) × ListsChunks (past_of P L calls wire) g d.file k c × HeardHeld (past_of P L calls wire) g d.file begun × CountsRow new (past_of N L calls wire) begun c k
+  FetchStops new calls d d' enough = (c : ClientCursor) × (d'.doing ≡ idle c) × ListsChunks (past_of P L calls wire) g d.file 0 c
   FetchStops new calls d d' (fails e) = ReadStops (past_of P L calls wire) (HeardEmpty (past_of P L calls wire) (past_of N L calls wire) g d.file) (ListsOther calls g.at d.file listed e) e
 
   pub record FetchStopped (log' : LogTold) (new : Awaited) (d d' : ClientDownload) (f : Fetched) : Type 0 where
@@ -242,7 +242,7 @@ module _ (g : GetTask) (P : List ℕ) (L : ℕ) (wire : ℤ) (bytes : List ℕ) 
     pub told : log ≡ Some calls
     pub room : L ≤ length calls
     pub under : IsUnderway old (past_of P (length calls) calls wire) c
-    pub lists : IsListed (past_of P L calls wire) g d.file k c
+    pub lists : ListsChunks (past_of P L calls wire) g d.file k c
     pub counted : chunk_count_of d.file.length d.file.chunk_size ≡ Ok d.count
     pub under_call : IsUnderway old (past_of N L calls wire) c
     pub held : HeardHeld (past_of P L calls wire) g d.file begun
@@ -256,7 +256,7 @@ module _ (g : GetTask) (P : List ℕ) (L : ℕ) (wire : ℤ) (bytes : List ℕ) 
       keeps : Keeps calls calls'
       came : NextCame new (past_of P L calls' wire) None c behind r
       knows : KnowsRead calls' (reader_in new behind (told_next r s.know.reader))
-      lists : IsListed (past_of P L calls' wire) g d.file k c
+      lists : ListsChunks (past_of P L calls' wire) g d.file k c
       held : HeardHeld (past_of P L calls' wire) g d.file begun
       later : NextLater new (past_of N L calls' wire) c behind r (newest 0 s.counts.replies)
 
@@ -360,7 +360,7 @@ module _ (g : GetTask) (P : List ℕ) (L : ℕ) (wire : ℤ) (bytes : List ℕ) 
             m',
             k',
             ap (λ (y : ClientDownload). y.doing) is,
-            subst (λ (n : ℕ). IsListed (past_of P L p.calls' wire) g d.file n behind) (sym same) (quiet_listed g (past_of P L p.calls' wire) d k c behind (quietly old new log log' wire started c behind next.Pending tt here) p.lists),
+            subst (λ (n : ℕ). ListsChunks (past_of P L p.calls' wire) g d.file n behind) (sym same) (quiet_listed g (past_of P L p.calls' wire) d k c behind (quietly old new log log' wire started c behind next.Pending tt here) p.lists),
             p.held,
             subst (λ (n : ℕ). CountsRow new (past_of N L p.calls' wire) begun behind n) (sym same) (counts_waiting old new (past_of N L calls wire) (past_of N L p.calls' wire) (log_just N L calls p.calls' wire p.keeps) begun c behind k s.counts (pending_more old new log log' wire started c behind here) p.later),
           );
@@ -447,7 +447,7 @@ module _ (g : GetTask) (P : List ℕ) (L : ℕ) (wire : ℤ) (bytes : List ℕ) 
             told = p.told;
             room = omega (arith, room, longer);
             under = underway_rest new (past_of P (length p.calls') p.calls' wire) one.behind rests;
-            lists = subst (λ (f : FileRecord). IsListed past g f so.1 one.behind) (sym gets.file)
+            lists = subst (λ (f : FileRecord). ListsChunks past g f so.1 one.behind) (sym gets.file)
                 (listed_behind g past d.file k c p.lists one.reply one.behind so.1 passes (λ some. these ∙ none_received d.file d.taken t.chunks b.documents (so.3 some) b.received));
             counted = subst (λ (f : FileRecord). chunk_count_of f.length f.chunk_size ≡ Ok d1.count) (sym gets.file) (s.counted ∙ ap (λ (n : ℕ). Ok n) (sym gets.count));
             under_call = underway_rest new call one.behind rests;
@@ -457,8 +457,8 @@ module _ (g : GetTask) (P : List ℕ) (L : ℕ) (wire : ℤ) (bytes : List ℕ) 
         }
 
   fetch_file : (new : Awaited) (calls : List Call) (d d1 d' : ClientDownload) (f : Fetched) → d1.file ≡ d.file → FetchStops new calls d1 d' f → FetchStops new calls d d' f
-  fetch_file new calls d d1 d' waits same h = (h.0, h.1, h.2, h.3, subst (λ (f : FileRecord). IsListed (past_of P L calls wire) g f h.2 h.0) same h.4, subst (λ (f : FileRecord). HeardHeld (past_of P L calls wire) g f begun) same h.5, h.6)
-  fetch_file new calls d d1 d' enough same h = (h.0, h.1, subst (λ (f : FileRecord). IsListed (past_of P L calls wire) g f 0 h.0) same h.2)
+  fetch_file new calls d d1 d' waits same h = (h.0, h.1, h.2, h.3, subst (λ (f : FileRecord). ListsChunks (past_of P L calls wire) g f h.2 h.0) same h.4, subst (λ (f : FileRecord). HeardHeld (past_of P L calls wire) g f begun) same h.5, h.6)
+  fetch_file new calls d d1 d' enough same h = (h.0, h.1, subst (λ (f : FileRecord). ListsChunks (past_of P L calls wire) g f 0 h.0) same h.2)
   fetch_file new calls d d1 d' (fails e) same h = subst (λ (f : FileRecord). ReadStops (past_of P L calls wire) (HeardEmpty (past_of P L calls wire) (past_of N L calls wire) g f) (ListsOther calls g.at f listed e) e) same h
 
   pub fetches_stopped : (n : ℕ) (old new : Awaited) (log log' : LogTold) (calls : List Call) (d d' : ClientDownload) (c : ClientCursor) (m k : ℕ) (f : Fetched) → StandsAt old log calls d c m k → Fetches n old new log log' wire d d' f → FetchStopped log' new d d' f

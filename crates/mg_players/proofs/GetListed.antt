@@ -33,7 +33,7 @@ use Rattle.mg_gridfs.specs.Findings as findings
 use Rattle.mg_gridfs.specs.Findings.{BeginsFind, ClientFinding, FindsOn, HearsList, HearsRecord, IsSoundFinding, ListsOn, Looking, Opened, Opens, OpensFile, SoundIn}
 use Rattle.mg_gridfs.specs.ReadCauses.{IsOpening, LookingUnderway, cursor_in}
 use Rattle.mg_players.specs.Gets.{AsksPlainly, GetTask, chunks_find}
-use Rattle.mg_players.specs.Reading.{IsListOf, IsListed, ListsIts, empties}
+use Rattle.mg_players.specs.Reading.{IsListOf, ListsChunks, ListsIts, empties}
 use Rattle.mg_players.proofs.GetListing.{list_asks, list_step}
 use Rattle.mg_players.proofs.GetSending.{listed_same}
 use Rattle.mg_players.proofs.GetSteps.{query_opened}
@@ -155,7 +155,7 @@ module _ (g : GetTask) (b : ClientBucket) (plain : IsPlainAt b g.at) (past : Pas
       let said : Cursor = record { id = h.out.info.id; space = space h.out.info.ns; token = h.out.post_batch_resume_token; batch = h.opens.opens.batch } in
       let listed : HeardBy past (chunks_find g d.file.id) (reply h.bytes) = subst (λ (lines : List Line). HeardBy past (fields_in lines) (reply h.bytes)) (listed_same g b d.file.id plain) h.heard in
       let l : IsListOf past g d.file x h.bytes = record { heard = listed; success = h.success; said = said; says = h.opens.opens.says; id_is = refl } in
-      subst (λ (y : ClientCursor). IsListed past g d.file (empties d.doing) y) same
+      subst (λ (y : ClientCursor). ListsChunks past g d.file (empties d.doing) y) same
       (record {
         named = named;
         told = record { command = chunks_find g d.file.id; bytes = h.bytes; heard = listed; said = said; says = h.opens.opens.says; id_is = refl; space_is = refl; plain = asks x (ap cursor_in doing_is) };

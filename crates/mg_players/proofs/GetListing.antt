@@ -31,7 +31,8 @@ use Rattle.mg_records.specs.FileRecords.{FileRecord, chunk_count_of}
 use Rattle.mg_gridfs.specs.Downloaded.{IsPlainAt, chunks_query}
 use Rattle.mg_gridfs.proofs.Fronts.{all_known, all_opened, front_known, front_opened}
 use Rattle.mg_gridfs.proofs.OpeningKnown.{listed_asks}
-use Rattle.mg_players.specs.Gets.{GetTask, chunks_find, get_bucket}
+use Rattle.mg_players.specs.Buckets.{plain_bucket}
+use Rattle.mg_players.specs.Gets.{GetTask, chunks_find}
 use Rattle.mg_players.specs.Reading.{Differ, IsListOf, IsTold, ListsOther}
 use Rattle.mg_players.proofs.Batches.{events_read, read_as}
 use Rattle.mg_players.proofs.GetSteps.{GivesBatch, OpensBatch, TookStep, more_gives, query_opens, took}
@@ -67,11 +68,11 @@ chunks_are s at id ds is = chunks_result s (chunks_space at) id ds is
 
 -- ---- the bucket of a get
 
-pub plain_bucket : (g : GetTask) → IsNamed (chunks_space g.at) → IsPlainAt (get_bucket g.at) g.at
-plain_bucket g named = record { place = record { files = refl; chunks = refl }; files = files_named g.at named.db; chunks = named; no_concern = refl; no_criteria = refl }
+pub bucket_is_plain : (g : GetTask) → IsNamed (chunks_space g.at) → IsPlainAt (plain_bucket g.at) g.at
+bucket_is_plain g named = record { place = record { files = refl; chunks = refl }; files = files_named g.at named.db; chunks = named; no_concern = refl; no_criteria = refl }
 
 pub list_asks : (g : GetTask) (id : Tree) (command : List ℕ) → IsNamed (chunks_space g.at) → fields command ≡ chunks_find g id → asked command ≡ asks_query (chunks_query (chunks_space g.at) id)
-list_asks g id command named is = listed_asks (get_bucket g.at) g.at (plain_bucket g named) id command is
+list_asks g id command named is = listed_asks (plain_bucket g.at) g.at (bucket_is_plain g named) id command is
 
 -- ---- batches
 

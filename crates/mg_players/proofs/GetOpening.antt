@@ -12,20 +12,21 @@ use Rattle.mg_gridfs.specs.Buckets.{ClientBucket, SameBucket, bucket_by}
 use Rattle.mg_gridfs.specs.declared.bucket.DatabaseDefaults.{DatabaseDefaults}
 use Rattle.mg_gridfs.specs.Downloaded.{IsPlainAt}
 use Rattle.mg_gridfs.specs.Findings.{ClientFinding, IsNewFinding}
-use Rattle.mg_players.specs.Gets.{GetTask, IsOpeningFor, get_bucket}
+use Rattle.mg_players.specs.Buckets.{plain_bucket}
+use Rattle.mg_players.specs.Gets.{GetTask, IsOpeningFor}
 use Rattle.mg_players.proofs.Naming.{chunks_named, files_named}
 
 -- a new bucket by its names, of which nothing else is given
-pub plain_bucket : (at : Bucket) (d : DatabaseDefaults) (o : GridFsBucketOptions) → string_bytes d.name ≡ at.db → d.read_concern ≡ None → d.write_concern ≡ None → d.selection_criteria ≡ None → option_map string_bytes o.bucket_name ≡ Some at.name → o.chunk_size_bytes ≡ None → o.read_concern ≡ None → o.write_concern ≡ None → o.selection_criteria ≡ None
-    → bucket_by d o ≡ get_bucket at
-plain_bucket at d o db reads writes asks named size less more others = rw (db, reads, writes, asks, named, size, less, more, others) refl
+pub new_is_plain : (at : Bucket) (d : DatabaseDefaults) (o : GridFsBucketOptions) → string_bytes d.name ≡ at.db → d.read_concern ≡ None → d.write_concern ≡ None → d.selection_criteria ≡ None → option_map string_bytes o.bucket_name ≡ Some at.name → o.chunk_size_bytes ≡ None → o.read_concern ≡ None → o.write_concern ≡ None → o.selection_criteria ≡ None
+    → bucket_by d o ≡ plain_bucket at
+new_is_plain at d o db reads writes asks named size less more others = rw (db, reads, writes, asks, named, size, less, more, others) refl
 
 none_given : (reads : Option ReadConcern) → SameIn level_of None reads → reads ≡ None
 none_given None same = refl
 none_given (Some c) same = absurd same
 
 -- a copy of the bucket
-plain_copy : (at : Bucket) (b c : ClientBucket) → b ≡ get_bucket at → as_database at.db ≡ Some at.db → SameBucket b c → IsPlainAt c at
+plain_copy : (at : Bucket) (b c : ClientBucket) → b ≡ plain_bucket at → as_database at.db ≡ Some at.db → SameBucket b c → IsPlainAt c at
 plain_copy at b c is named same =
     let files : c.files ≡ files_space at = same.files ∙ ap (λ (x : ClientBucket). x.files) is in
     let chunks : c.chunks ≡ chunks_space at = same.chunks ∙ ap (λ (x : ClientBucket). x.chunks) is in
@@ -38,7 +39,7 @@ plain_copy at b c is named same =
     }
 
 -- A new opening in it is of the file.
-pub opening_for : (g : GetTask) (b : ClientBucket) (id : Tree) (o : ClientFinding) → b ≡ get_bucket g.at → as_database g.at.db ≡ Some g.at.db → id ≡ g.id → IsNewFinding b id o → IsOpeningFor g o
+pub opening_for : (g : GetTask) (b : ClientBucket) (id : Tree) (o : ClientFinding) → b ≡ plain_bucket g.at → as_database g.at.db ≡ Some g.at.db → id ≡ g.id → IsNewFinding b id o → IsOpeningFor g o
 opening_for g b id o is named same new_one = record {
   id_is = new_one.id_is ∙ same;
   placed = λ c there. elim new_one.bucket [

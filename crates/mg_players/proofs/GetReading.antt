@@ -18,7 +18,7 @@ use Rattle.mg_cursor.proofs.SeekCaused.{fails_grow}
 use Rattle.mg_records.specs.FileRecords.{FileRecord}
 use Rattle.mg_gridfs.specs.Downloads.{ClientDownload}
 use Rattle.mg_players.specs.Gets.{GetTask, chunks_find}
-use Rattle.mg_players.specs.Reading.{Differ, HeardHeld, IsListOf, IsListed, IsQueried, IsTold, ListsIts, ListsOther, ReadStops, WherePrompt, differs, empties, no_batch, no_memory, not_built, too_many}
+use Rattle.mg_players.specs.Reading.{Differ, HeardHeld, IsListOf, ListsChunks, IsQueried, IsTold, ListsIts, ListsOther, ReadStops, WherePrompt, differs, empties, no_batch, no_memory, not_built, too_many}
 use Rattle.mg_players.proofs.Queried.{queried_later}
 
 -- ---- an earlier history
@@ -79,7 +79,7 @@ module _ (past past' : Past) (grows : Grows past past') where
   list_grow g f c bytes l = record { heard = heard_reply past past' grows (chunks_find g f.id) bytes l.heard; success = l.success; said = l.said; says = l.says; id_is = l.id_is }
 
   module _ (onward : Onward past.calls past'.calls nobody) where
-    pub listed_grow : (g : GetTask) (f : FileRecord) (empty : ℕ) (c : ClientCursor) → IsListed past g f empty c → IsListed past' g f empty c
+    pub listed_grow : (g : GetTask) (f : FileRecord) (empty : ℕ) (c : ClientCursor) → ListsChunks past g f empty c → ListsChunks past' g f empty c
     listed_grow g f empty c l = record {
       named = l.named;
       told = told_grow c l.told;

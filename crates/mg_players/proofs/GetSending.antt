@@ -33,7 +33,8 @@ use Rattle.mg_gridfs.specs.Reads.{Concludes, EndsFetch, Fetched, Fetches, Fills,
 use Rattle.mg_gridfs.specs.declared.polls.ReadPoll.{ReadPoll}
 use Rattle.mg_gridfs.specs.declared.polls.ReadPoll.TheVariants as read
 use Rattle.mg_gridfs.proofs.Sounding.{rest_ticket}
-use Rattle.mg_players.specs.Gets.{AsksForMore, AsksPlainly, GetTask, get_bucket, no_manner}
+use Rattle.mg_players.specs.Buckets.{plain_bucket}
+use Rattle.mg_players.specs.Gets.{AsksForMore, AsksPlainly, GetTask, no_manner}
 use Rattle.mg_players.proofs.Sends.{manner_behind}
 
 -- ---- commands of one kind
@@ -52,10 +53,10 @@ module _ (may : Fields → Type 0) where
 
 -- ---- the commands of a bucket that is a copy
 
-pub found_same : (g : GetTask) (b : ClientBucket) (id : Tree) → IsPlainAt b g.at → found_lines b id ≡ found_lines (get_bucket g.at) id
+pub found_same : (g : GetTask) (b : ClientBucket) (id : Tree) → IsPlainAt b g.at → found_lines b id ≡ found_lines (plain_bucket g.at) id
 found_same g b id is = rw (is.place.files, is.no_concern, is.no_criteria) refl
 
-pub listed_same : (g : GetTask) (b : ClientBucket) (id : Tree) → IsPlainAt b g.at → listed_lines b id ≡ listed_lines (get_bucket g.at) id
+pub listed_same : (g : GetTask) (b : ClientBucket) (id : Tree) → IsPlainAt b g.at → listed_lines b id ≡ listed_lines (plain_bucket g.at) id
 listed_same g b id is = rw (is.place.chunks, is.no_concern, is.no_criteria) refl
 
 -- ---- a batch of a read

@@ -25,7 +25,7 @@ use Rattle.mg_gridfs.specs.declared.polls.ReadPoll.TheVariants as read
 use Rattle.mg_gridfs.proofs.Downloading.{AfterFetch, doing_known, fetches_known, fetches_same}
 use Rattle.mg_players.specs.Gets.{GetTask}
 use Rattle.mg_players.specs.Reading as stops
-use Rattle.mg_players.specs.Reading.{CountsIn, Differ, HeardEmpty, HeardHeld, IsListed, ListsIts, ListsOther, ReadStops, empties, miscounted}
+use Rattle.mg_players.specs.Reading.{CountsIn, Differ, HeardEmpty, HeardHeld, ListsChunks, ListsIts, ListsOther, ReadStops, empties, miscounted}
 use Rattle.mg_players.proofs.GetCounting.{counts_begin}
 use Rattle.mg_players.proofs.GetFetching.{FetchStops, StandsAt, fetches_stopped}
 use Rattle.mg_players.proofs.GetListing.{differs_by}
@@ -63,18 +63,18 @@ ReadLeaves awaited past call calls g f listed d' (read.Failed e) = ReadStops pas
 
 module _ (awaited : Awaited) (g : GetTask) (listed : ℕ) (past call : Past) (calls : List Call) where
   -- one cursor
-  lists_one : (d : ClientDownload) (doing : Doing) (c : ClientCursor) → d.doing ≡ doing → cursor_in doing ≡ Some c → IsListed past g d.file (empties doing) c → ListsIts past g d
+  lists_one : (d : ClientDownload) (doing : Doing) (c : ClientCursor) → d.doing ≡ doing → cursor_in doing ≡ Some c → ListsChunks past g d.file (empties doing) c → ListsIts past g d
   lists_one d doing c is has l x at =
       let same : c ≡ x = same_some c x (sym has ∙ sym (ap cursor_in is) ∙ at) in
-      subst (λ (y : ClientCursor). IsListed past g d.file (empties d.doing) y) same (subst (λ (z : Doing). IsListed past g d.file (empties z) c) (sym is) l)
+      subst (λ (y : ClientCursor). ListsChunks past g d.file (empties d.doing) y) same (subst (λ (z : Doing). ListsChunks past g d.file (empties z) c) (sym is) l)
 
   lists_none : (d : ClientDownload) → cursor_in d.doing ≡ None → ListsIts past g d
   lists_none d none c at = absurd (let bad : None ≡ Some c = sym none ∙ at in cc)
 
-  gives_leaves : (room : ℕ) (c : ClientCursor) (d d' : ClientDownload) (given : List ℕ) (r : ReadPoll) (f : FileRecord) → d.file ≡ f → IsListed past g f 0 c → ((HasNext c → ⊥) → d.taken ≢ d.count → (e : Error) → e ≡ missing_chunk d.taken → ListsOther calls g.at f listed e) → HandsOut room c d d' given r → ReadLeaves awaited past call calls g f listed d' r
+  gives_leaves : (room : ℕ) (c : ClientCursor) (d d' : ClientDownload) (given : List ℕ) (r : ReadPoll) (f : FileRecord) → d.file ≡ f → ListsChunks past g f 0 c → ((HasNext c → ⊥) → d.taken ≢ d.count → (e : Error) → e ≡ missing_chunk d.taken → ListsOther calls g.at f listed e) → HandsOut room c d d' given r → ReadLeaves awaited past call calls g f listed d' r
   gives_leaves room c d d' given r f same l differs_so (steps.goes_on some is now answer) =
       subst (ReadLeaves awaited past call calls g f listed d') (sym answer)
-      (lists_one d' (idle c) c (ap (λ (x : ClientDownload). x.doing) now) refl (subst (λ (x : FileRecord). IsListed past g x 0 c) (sym (ap (λ (x : ClientDownload). x.file) now ∙ same)) l))
+      (lists_one d' (idle c) c (ap (λ (x : ClientDownload). x.doing) now) refl (subst (λ (x : FileRecord). ListsChunks past g x 0 c) (sym (ap (λ (x : ClientDownload). x.file) now ∙ same)) l))
   gives_leaves room c d d' given r f same l differs_so (steps.ends none over full is now answer) = subst (ReadLeaves awaited past call calls g f listed d') (sym answer) (lists_none d' (ap (λ (x : ClientDownload). cursor_in x.doing) now))
   gives_leaves room c d d' given r f same l differs_so (steps.miscounts none over other no_bytes now answer) = subst (ReadLeaves awaited past call calls g f listed d') (sym answer) (stops.differs (differs_so over other (missing_chunk d.taken) refl))
 
@@ -100,8 +100,8 @@ module _ (old new : Awaited) (log log' : LogTold) (wire : ℤ) (g : GetTask) (d 
     sound_at : (x : Doing) → d.doing ≡ x → SoundBy d x
     sound_at x is = subst (SoundBy d) is sound.by
 
-    lists_at : (x : Doing) (c : ClientCursor) → d.doing ≡ x → cursor_in x ≡ Some c → IsListed before g d.file (empties x) c
-    lists_at x c is has = subst (λ (y : Doing). IsListed before g d.file (empties y) c) is (lists c (ap cursor_in is ∙ has))
+    lists_at : (x : Doing) (c : ClientCursor) → d.doing ≡ x → cursor_in x ≡ Some c → ListsChunks before g d.file (empties x) c
+    lists_at x c is has = subst (λ (y : Doing). ListsChunks before g d.file (empties y) c) is (lists c (ap cursor_in is ∙ has))
 
     none_left : ReadsNone old new log log' d d' given r → ReadStopped
     none_left h = record {
@@ -117,7 +117,7 @@ module _ (old new : Awaited) (log log' : LogTold) (wire : ℤ) (g : GetTask) (d 
         let past : Past = past_of P (length calls) l wire in
         let now : Past = past_of N (length calls) l wire in
         subst (ReadLeaves new past now l g d.file listed d') (sym ends.2) (
-          subst (λ (x : ClientDownload). ListsIts past g x) (sym ends.0) (lists_one new g listed past now l left (reads after.0 after.1 after.2) after.0 after.3 refl (subst (λ (f : FileRecord). IsListed past g f after.2 after.0) (sym same) after.4)),
+          subst (λ (x : ClientDownload). ListsIts past g x) (sym ends.0) (lists_one new g listed past now l left (reads after.0 after.1 after.2) after.0 after.3 refl (subst (λ (f : FileRecord). ListsChunks past g f after.2 after.0) (sym same) after.4)),
           subst (λ (x : ClientDownload). CountsIn new past now g x.file x.doing) (sym ends.0)
               (subst (λ (x : Doing). CountsIn new past now g left.file x) (sym after.3) (begun, subst (λ (f : FileRecord). HeardHeld past g f begun) (sym same) after.5, after.6)),
         )
@@ -129,7 +129,7 @@ module _ (old new : Awaited) (log log' : LogTold) (wire : ℤ) (g : GetTask) (d 
         let rests : c.doing ≡ client.rests = ap (λ (x : ClientCursor). x.doing) (sym second) ∙ known.2 in
         let chunks = subst (λ (x : ClientCursor). KnowsChunks new l g.at left bytes x know.of_record.front.place listed) second known.3 in
         let counts : chunk_count_of left.file.length left.file.chunk_size ≡ Ok left.count = subst (λ (f : FileRecord). chunk_count_of f.length f.chunk_size ≡ Ok left.count) (sym same) (counted ∙ ap (λ (n : ℕ). Ok n) (sym count)) in
-        gives_leaves new g listed past (past_of N (length calls) l wire) l room c left d' given r d.file (same ∙ file) (subst (λ (f : FileRecord). IsListed past g f 0 c) file (subst (λ (x : ClientCursor). IsListed past g e.file 0 x) first after.2))
+        gives_leaves new g listed past (past_of N (length calls) l wire) l room c left d' given r d.file (same ∙ file) (subst (λ (f : FileRecord). ListsChunks past g f 0 c) file (subst (λ (x : ClientCursor). ListsChunks past g e.file 0 x) first after.2))
         (λ over other why is. subst (λ (f : FileRecord). ListsOther l g.at f listed why) (same ∙ file) (counts_other new l g left bytes c know.of_record.front.place listed chunks after.2.named rests over counts other why is)) ends.2
     concluded begun e left room l (fails x) file counted same count after known ends =
         let past : Past = past_of P (length calls) l wire in

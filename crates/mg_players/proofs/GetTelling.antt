@@ -14,7 +14,8 @@ use Rattle.mg_gridfs.proofs.ReadCaused.{read_fails_grow}
 use Rattle.mg_script.specs.declared.outcome.Ended.{Ended}
 use Rattle.mg_script.specs.declared.outcome.Ended.TheVariants as ended
 use Rattle.mg_players.specs.Causes.{sent_at}
-use Rattle.mg_players.specs.Gets.{GetTask, IsFindAt, get_bucket, gets_ticket}
+use Rattle.mg_players.specs.Buckets.{plain_bucket}
+use Rattle.mg_players.specs.Gets.{GetTask, IsFindAt, gets_ticket}
 use Rattle.mg_players.specs.Plays.{Places, all_places}
 use Rattle.mg_players.specs.Reading.{ListsOther}
 use Rattle.mg_players.specs.Telling as tells
@@ -37,7 +38,7 @@ module _ (calls calls' : List Call) (wire : ℤ) (keeps : Keeps calls calls') (o
 
   pub opened_later : (f : FileRecord) (at : Option ℕ) → TellsGetOpened calls wire q g f at → TellsGetOpened calls' wire q g f at
   opened_later f at t = record {
-    heard = record_grows (sent_at q.opened calls wire) (sent_at q.opened calls' wire) (later q.opened) (get_bucket g.at) g.id (Some f) t.heard;
+    heard = record_grows (sent_at q.opened calls wire) (sent_at q.opened calls' wire) (later q.opened) (plain_bucket g.at) g.id (Some f) t.heard;
     listed = t.listed;
     finds = falls_later (IsFindAt g (Some f)) calls calls' 5 q.opened 1 keeps t.finds;
     more = asks_later calls calls' keeps (all_places q) (concat q.owns ++ q.now) t.more;
@@ -50,14 +51,14 @@ module _ (calls calls' : List Call) (wire : ℤ) (keeps : Keeps calls calls') (o
   asked_later : (done : ℕ) → TellsAsked calls wire q g done → TellsAsked calls' wire q g done
   asked_later done (tells.in_opening silent first found a) = tells.in_opening silent first found (record {
     finds = falls_later (IsFindAt g found) calls calls' 5 q.now 1 keeps a.finds;
-    heard = λ f is. record_grows (sent_at q.now calls wire) (sent_at q.now calls' wire) (later q.now) (get_bucket g.at) g.id (Some f) (a.heard f is);
+    heard = λ f is. record_grows (sent_at q.now calls wire) (sent_at q.now calls' wire) (later q.now) (plain_bucket g.at) g.id (Some f) (a.heard f is);
   })
   asked_later done (tells.behind_it f at opened counted) = tells.behind_it f at (opened_later f at opened) counted
 
   fails_later : (done : ℕ) (e : Error) → TellsGetFails calls wire q g done e → TellsGetFails calls' wire q g done e
   fails_later done e (tells.out_of_memory room) = tells.out_of_memory room
   fails_later done e (tells.has_no_room none is) = tells.has_no_room none is
-  fails_later done e (tells.not_opened some first none fails) = tells.not_opened some first none (opening_fails_grow (sent_at q.now calls wire) (sent_at q.now calls' wire) (later q.now) (get_bucket g.at) g.id e fails)
+  fails_later done e (tells.not_opened some first none fails) = tells.not_opened some first none (opening_fails_grow (sent_at q.now calls wire) (sent_at q.now calls' wire) (later q.now) (plain_bucket g.at) g.id e fails)
   fails_later done e (tells.not_read some more d at opened cursor fails its sound plain counted listed of held why) =
       tells.not_read some more d at (opened_later d.file at opened) cursor (read_fails_grow (sent_at q.now calls wire) (sent_at q.now calls' wire) (later q.now) d cursor e fails) its sound plain counted listed of
       (held_grows (sent_at (all_places q) calls wire) (sent_at (all_places q) calls' wire) (later (all_places q)) g d.file cursor held)

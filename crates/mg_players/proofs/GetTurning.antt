@@ -44,7 +44,8 @@ use Rattle.mg_gridfs.proofs.ReadCaused.{read_fails_grow}
 use Rattle.mg_script.specs.declared.outcome.Ended.TheVariants as ended
 use Rattle.mg_players.specs.Asking.{AllAskOn, DownloadLast, FindingLast}
 use Rattle.mg_players.specs.Causes.{FallsAt, sent_at, sent_since}
-use Rattle.mg_players.specs.Gets.{AsksForMore, AsksPlainly, GetKnowsAt, GetTask, IsFindAt, IsGetCommand, IsOpeningFor, KeepsRead, OpensAs, done_behind, get_bucket, get_owner, room_of, sought}
+use Rattle.mg_players.specs.Buckets.{plain_bucket}
+use Rattle.mg_players.specs.Gets.{AsksForMore, AsksPlainly, GetKnowsAt, GetTask, IsFindAt, IsGetCommand, IsOpeningFor, KeepsRead, OpensAs, done_behind, get_owner, room_of, sought}
 use Rattle.mg_players.specs.Plays.{Moves, MovesTo, Places, all_places, by_finding, no_move}
 use Rattle.mg_players.specs.Reading.{CountsIn, HeardHeld, ListsIts, ListsOther, SentNone}
 use Rattle.mg_players.specs.Telling as tells
@@ -70,7 +71,7 @@ use Rattle.mg_players.proofs.Whole.{whole_answered, whole_going}
 
 -- ---- why an opening fails, by the words of a bucket that is a copy
 
-bucket_fails : (past : Past) (g : GetTask) (b : ClientBucket) (id : Tree) (e : Error) → IsPlainAt b g.at → OpeningFails past b id e → OpeningFails past (get_bucket g.at) id e
+bucket_fails : (past : Past) (g : GetTask) (b : ClientBucket) (id : Tree) (e : Error) → IsPlainAt b g.at → OpeningFails past b id e → OpeningFails past (plain_bucket g.at) id e
 bucket_fails past g b id e plain (files.out_of_memory room) = files.out_of_memory room
 bucket_fails past g b id e plain (files.find_not_built cannot) = files.find_not_built (subst (λ (lines : List Line). CannotSend lines e) (found_same g b id plain) cannot)
 bucket_fails past g b id e plain (files.by_find fails) = files.by_find (subst (λ (lines : List Line). RequestFails past (fields_in lines) true TellsNoRecord e) (found_same g b id plain) fails)
@@ -227,8 +228,8 @@ module _ (old new : Awaited) (log log' : LogTold) (wire : ℤ) (job : GetPlayer)
       why calls calls' q alone aim fails (Some b) is =
           let past : Past = past_of q.now (length calls) calls' wire in
           let later : Past = sent_at (sent_since q.now (length calls) (length calls')) calls' wire in
-          let here : OpeningFails past (get_bucket g.at) g.id e = subst (λ (id : Tree). OpeningFails past (get_bucket g.at) id e) aim.id_is (bucket_fails past g b o.id e (aim.placed b is) (fails b is)) in
-          tells.not_opened some alone first (opening_fails_grow past later (grows_ended q.now (length calls) calls' wire) (get_bucket g.at) g.id e here)
+          let here : OpeningFails past (plain_bucket g.at) g.id e = subst (λ (id : Tree). OpeningFails past (plain_bucket g.at) id e) aim.id_is (bucket_fails past g b o.id e (aim.placed b is) (fails b is)) in
+          tells.not_opened some alone first (opening_fails_grow past later (grows_ended q.now (length calls) calls' wire) (plain_bucket g.at) g.id e here)
 
   -- it is opened, and read on where there is memory for the room of a read
   module _ (download : GridFsDownloadStream) (after : GetPlayer) (what : after.what ≡ job.what) (bytes : after.bytes.items ≡ job.bytes.items) (first : job.done ≡ 0) (opens : Opens old new log log' wire o (findings.opens (download_of download))) (is_download : IsDownload download)
@@ -286,9 +287,9 @@ module _ (old new : Awaited) (log log' : LogTold) (wire : ℤ) (job : GetPlayer)
         let b = bucket_opens old new log log' wire o d opens in
         let past : Past = past_of q.now (length calls) calls' wire in
         let later : Past = sent_at (sent_since q.now (length calls) (length calls')) calls' wire in
-        let here : HeardRecord past (get_bucket g.at) g.id (Some d.file) = subst (λ (id : Tree). HeardRecord past (get_bucket g.at) id (Some d.file)) aim.id_is (heard_same past g b.0 o.id (Some d.file) (aim.placed b.0 b.1) (came b.0 b.1)) in
+        let here : HeardRecord past (plain_bucket g.at) g.id (Some d.file) = subst (λ (id : Tree). HeardRecord past (plain_bucket g.at) id (Some d.file)) aim.id_is (heard_same past g b.0 o.id (Some d.file) (aim.placed b.0 b.1) (came b.0 b.1)) in
         record {
-          heard = record_grows past later (grows_ended q.now (length calls) calls' wire) (get_bucket g.at) g.id (Some d.file) here;
+          heard = record_grows past later (grows_ended q.now (length calls) calls' wire) (plain_bucket g.at) g.id (Some d.file) here;
           listed = opened_place calls calls' q at room h placed;
           finds = subst (λ (x : Option FileRecord). FallsAt (IsFindAt g x) calls' 5 (sent_since q.now (length calls) (length calls')) 1) f.by f.falls;
           more = λ place of. absurd of;
@@ -490,9 +491,9 @@ module _ (old new : Awaited) (log log' : LogTold) (wire : ℤ) (job : GetPlayer)
   -- what its opening heard is told so by a later log, where more chunks were asked for
   still_opened : (calls calls' : List Call) (q q' : Places) (f f' : FileRecord) (at : Option ℕ) → Keeps calls calls' → q'.opened ≡ q.opened → f' ≡ f → (AllAskOn calls (all_places q) (concat q.owns ++ q.now) → AllAskOn calls' (all_places q') (concat q'.owns ++ q'.now)) → TellsGetOpened calls wire q task f at → TellsGetOpened calls' wire q' task f' at
   still_opened calls calls' q q' f f' at keeps same file asks t = record {
-    heard = subst (λ (x : FileRecord). HeardRecord (sent_at q'.opened calls' wire) (get_bucket task.at) task.id (Some x)) (sym file)
-        (subst (λ (l : List ℕ). HeardRecord (sent_at l calls' wire) (get_bucket task.at) task.id (Some f)) (sym same)
-        (record_grows (sent_at q.opened calls wire) (sent_at q.opened calls' wire) (grows_later q.opened calls calls' wire keeps) (get_bucket task.at) task.id (Some f) t.heard));
+    heard = subst (λ (x : FileRecord). HeardRecord (sent_at q'.opened calls' wire) (plain_bucket task.at) task.id (Some x)) (sym file)
+        (subst (λ (l : List ℕ). HeardRecord (sent_at l calls' wire) (plain_bucket task.at) task.id (Some f)) (sym same)
+        (record_grows (sent_at q.opened calls wire) (sent_at q.opened calls' wire) (grows_later q.opened calls calls' wire keeps) (plain_bucket task.at) task.id (Some f) t.heard));
     listed = λ place is. subst (λ (l : List ℕ). IsOf l place) (sym same) (t.listed place is);
     finds = subst (λ (x : FileRecord). FallsAt (IsFindAt task (Some x)) calls' 5 q'.opened 1) (sym file)
         (subst (λ (l : List ℕ). FallsAt (IsFindAt task (Some f)) calls' 5 l 1) (sym same) (falls_later (IsFindAt task (Some f)) calls calls' 5 q.opened 1 keeps t.finds));

@@ -25,7 +25,7 @@ use Rattle.mg_cursor.specs.declared.polls.NextPoll.{NextPoll}
 use Rattle.mg_cursor.specs.declared.polls.NextPoll.TheVariants as next
 use Rattle.mg_cursor.proofs.SeekCaused.{fails_grow}
 use Rattle.mg_players.specs.Asking.{FliesLast}
-use Rattle.mg_players.specs.InTurn.{AloneBehind, AreInTurn, HasSentAt, IsAwaitedAt, IsNext, NoneBehind, empty_by, empty_taken, empty_with, newest}
+use Rattle.mg_players.specs.InTurn.{AloneBehind, AreInTurn, HasSentAt, IsAwaitedAt, IsNextSent, NoneBehind, empty_by, empty_taken, empty_with, newest}
 use Rattle.mg_players.proofs.GetNewest.{CameLast, Own, SentLast, ran_last}
 use Rattle.mg_players.proofs.JustGrown.{GrowsJust, NoneElse, before_or}
 
@@ -35,7 +35,7 @@ module _ (past past' : Past) (grows : Grows past past') where
   pub more_grows : (c : ClientCursor) (bytes : List ℕ) → HeardMore past c bytes → HeardMore past' c bytes
   more_grows c bytes h = record { session = h.session; heard = heard_reply past past' grows (get_more c h.session) bytes h.heard; success = h.success }
 
-  next_grows : (last after : ℕ) → NoneElse past past' last → after < length past.calls → IsNext past last after → IsNext past' last after
+  next_grows : (last after : ℕ) → NoneElse past past' last → after < length past.calls → IsNextSent past last after → IsNextSent past' last after
   next_grows last after none within h = (h.0, λ place of less. by_end place of less (before_or place (length past.calls)))
     where
       by_end : (place : ℕ) → HasSentAt past' place → last < place → (place < length past.calls) ⊎ (length past.calls ≤ place) → after ≤ place
@@ -53,7 +53,7 @@ turn_grows past past' just c last replies c' h = turn_behind past past' just.gro
 
 -- ---- one more reply
 
-pub heard_on : (past : Past) (c : ClientCursor) (last : ℕ) (replies : List (ℕ × List ℕ)) (at : ClientCursor) (place : ℕ) (bytes : List ℕ) (session : Option Session) (said : Cursor) → AreInTurn past c last replies at → IsNext past (newest last replies) place → at.id ≢ pos 0 → HeardAt past place (get_more at session) (reply bytes) → IsSuccess bytes → cursor_of (fields bytes) ≡ Ok said
+pub heard_on : (past : Past) (c : ClientCursor) (last : ℕ) (replies : List (ℕ × List ℕ)) (at : ClientCursor) (place : ℕ) (bytes : List ℕ) (session : Option Session) (said : Cursor) → AreInTurn past c last replies at → IsNextSent past (newest last replies) place → at.id ≢ pos 0 → HeardAt past place (get_more at session) (reply bytes) → IsSuccess bytes → cursor_of (fields bytes) ≡ Ok said
     → AreInTurn past c last (replies ++ (place, bytes) ∷ []) (behind_reply said at)
 heard_on past c last [] at place bytes session said is less held h success says =
     (less, subst (λ (x : ClientCursor). x.id ≢ pos 0) is held, session, subst (λ (x : ClientCursor). HeardAt past place (get_more x session) (reply bytes)) is h, success, said, says, ap (behind_reply said) is)
@@ -117,7 +117,7 @@ batch_from old new log log' wire started c c' bytes sound (goes_on sending at ru
 -- a reply to its getMore, which is the next command behind a place, and the last one
 pub record HeardLater (past : Past) (c : ClientCursor) (bytes : List ℕ) (most : ℕ) : Type 0 where
   pub more : HeardMore past c bytes
-  pub later : IsNext past most more.heard.place
+  pub later : IsNextSent past most more.heard.place
   pub last : NoneBehind past more.heard.place
 
 -- what a poll for the next batch came to, by when its reply was heard

@@ -125,10 +125,6 @@ holds_player awaited calls (player.Follow job) o at (inr vain) = subst (Holds ca
 holds_player awaited calls (player.Put job) o at plays = holds_put awaited calls o job.stage plays
 holds_player awaited calls (player.Get job) o at plays = holds_get awaited calls job o at plays
 
--- a job that owns no cursor, and does nothing
-pub turned_nobody : {P : Type 0} (awaited : Awaited) (log : LogTold) (p : P) → words.Turns (λ (a : Awaited) (cs : List Call) (q : P) (o : Owner) (at : Option ℕ). o ≡ nobody) awaited awaited log log p p no_move
-turned_nobody awaited log p calls told o at is = (calls, told, record { place = at; placed = refl; owner = o; plays = is; passes = passes_same calls o (subst (Holds calls) (sym is) (holds_nobody calls)) })
-
 -- a job that does nothing
 pub turned_not : (awaited : Awaited) (log : LogTold) (p p' : Player) → ((calls : List Call) (o : Owner) (at : Option ℕ) → Plays awaited calls p o at → Plays awaited calls p' o at) → Turns awaited awaited log log p p' no_move
 turned_not awaited log p p' knows calls told o at plays = (calls, told, record { place = at; placed = refl; owner = o; plays = knows calls o at plays; passes = passes_same calls o (holds_player awaited calls p o at plays) })

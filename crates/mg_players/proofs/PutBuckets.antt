@@ -1,6 +1,6 @@
 -- The bucket of a put, and its upload as it is opened.
-use Rattle.std.proofs.Common.{◌≡◌, ◌+◌, ℕ, List, Option, Some, None, Result, Ok, Err, string_bytes, refl, sym, ap, ◌∙◌, subst, inl, inr, arith}
-use Rattle.std.specs.Prelude.{OnOk, option_map}
+use Rattle.std.proofs.Common.{◌≡◌, ◌+◌, ℕ, List, Option, Some, None, Result, Ok, Err, refl, sym, ap, ◌∙◌, subst, inl, inr, arith}
+use Rattle.std.specs.Prelude.{OnOk}
 use Rattle.mg_bson.specs.Tree.{Fields, Tree}
 use Rattle.mg_link.specs.Files.{chunks_space, files_space}
 use Rattle.mg_link.specs.Concerns.{concerned}
@@ -10,11 +10,9 @@ use Rattle.mg_link.specs.declared.error.Error.{Error}
 use Rattle.mg_link.specs.declared.read_preference.SelectionCriteria.{SelectionCriteria}
 use Rattle.mg_link.specs.Namespace.{Space}
 use Rattle.mg_options.specs.Copies.{SameIn, level_of}
-use Rattle.mg_options.specs.declared.grid_fs.GridFsBucketOptions.{GridFsBucketOptions}
 use Rattle.mg_ops.specs.Drawn.{AreLater, one_unless_there}
 use Rattle.mg_ops.specs.Failing.{FailsBy}
-use Rattle.mg_gridfs.specs.Buckets.{ClientBucket, ClientOpening, HasNoSize, IsDraft, IsNewOpening, SameBucket, bucket_by}
-use Rattle.mg_gridfs.specs.declared.bucket.DatabaseDefaults.{DatabaseDefaults}
+use Rattle.mg_gridfs.specs.Buckets.{ClientBucket, ClientOpening, HasNoSize, IsDraft, IsNewOpening, SameBucket}
 use Rattle.mg_gridfs.specs.Uploads.{ClientUpload, fresh_upload}
 use Rattle.mg_gridfs.specs.UploadView.{IsOpened}
 use Rattle.mg_players.specs.Puts.{CannotOpen, PutTask, put_aim, put_bucket}
@@ -34,11 +32,6 @@ copied t c s =
     ∙ ap (λ (w : Option WriteConcern). record (put_bucket t) { writes = w; reads = c.reads; asks = c.asks }) (none_given concerned c.writes s.writes)
     ∙ ap (λ (w : Option ReadConcern). record (put_bucket t) { reads = w; asks = c.asks }) (none_given level_of c.reads s.reads)
     ∙ ap (λ (w : Option SelectionCriteria). record (put_bucket t) { asks = w }) s.asks
-
--- a new one by its names, of which nothing else is given
-pub named_so : (t : PutTask) (d : DatabaseDefaults) (o : GridFsBucketOptions) → string_bytes d.name ≡ t.at.db → d.read_concern ≡ None → d.write_concern ≡ None → d.selection_criteria ≡ None → option_map string_bytes o.bucket_name ≡ Some t.at.name → o.chunk_size_bytes ≡ None → o.read_concern ≡ None → o.write_concern ≡ None → o.selection_criteria ≡ None
-    → bucket_by d o ≡ put_bucket t
-named_so t d o db reads writes asks named size less more others = rw (db, reads, writes, asks, named, size, less, more, others) refl
 
 -- ---- its upload
 

@@ -1,7 +1,7 @@
 -- What a step of a put's index check is caused by, and what it knows of the list that it reads.
-use Rattle.std.proofs.Common.{◌≡◌, ◌≢◌, ◌⊎◌, ◌≤◌, ◌||◌, ℕ, suc, ℤ, Bool, true, false, List, [], ◌∷◌, ◌++◌, length, length-append, Some, None, Ok, refl, sym, ap, ◌∙◌, subst, inl, inr, arith, append-nil, append_assoc}
+use Rattle.std.proofs.Common.{◌≡◌, ◌≢◌, ◌≤◌, ◌||◌, ℕ, suc, ℤ, Bool, true, false, List, [], ◌∷◌, ◌++◌, length, length-append, Some, None, Ok, refl, sym, ap, ◌∙◌, subst, inl, inr, arith, append-nil, append_assoc}
 use Rattle.mg_bson.specs.Raw.{fields}
-use Rattle.mg_link.specs.Calls.{Came, Flies, Grows, HeardLast, NoneBroken, Past, RequestFails, past_of, was_broken}
+use Rattle.mg_link.specs.Calls.{Came, Flies, HeardLast, NoneBroken, Past, RequestFails, past_of, was_broken}
 use Rattle.mg_link.specs.Errors.{command_code}
 use Rattle.mg_link.specs.Exec.{IsSuccess, Runs, Sending}
 use Rattle.mg_link.specs.Link.{Awaited, LogTold}
@@ -35,7 +35,7 @@ use Rattle.mg_gridfs.specs.Indexes.{are_keys}
 use Rattle.mg_gridfs.specs.declared.indexes.Place.{Place}
 use Rattle.mg_gridfs.specs.declared.indexes.Place.TheVariants as place
 use Rattle.mg_players.specs.PutFailures as fails
-use Rattle.mg_players.specs.PutFailures.{AllOther, CheckReads, ComesNext, HasFound, HasKeys, HeardCreation, HeardIndexes, HeardNone, HeardWhole, IsListed, PutCheckFails, ReadsList, brought, creates_it, documents_held, documents_in}
+use Rattle.mg_players.specs.PutFailures.{AllOther, CheckReads, ComesNext, HasFound, HasKeys, HeardCreation, HeardIndexes, HeardNone, HeardWhole, IsListedIndex, PutCheckFails, ReadsList, brought, creates_it, documents_held, batch_documents}
 use Rattle.mg_players.proofs.NewestHeard.{HeardNewest}
 use Rattle.mg_players.proofs.PutChecks.{AdvanceHeard, AnyHeard, CreatedHeard, CreationHeard, EndHeard, FindHeard, IndexHeard, IndexedHeard, StepHeard}
 use Rattle.mg_players.proofs.JustGrown.{GrowsBehind, log_behind}
@@ -176,7 +176,7 @@ module _ (awaited : Awaited) (past : Past) (b : ClientBucket) where
           left = inl refl;
           empties = refl;
           few = none_few;
-          all = append-nil (documents_in bytes) ∙ sym (ap documents_in opens.opens.whole);
+          all = append-nil (batch_documents bytes) ∙ sym (ap batch_documents opens.opens.whole);
           within = get_within past.calls here.place here.heard.call here.heard.there;
           waits = λ sending ticket place is held at_place. absurd cc;
           alone = λ place of less. let last = here.newest place of in absurd (omega (arith, less, last));
@@ -220,7 +220,7 @@ module _ (awaited : Awaited) (past : Past) (b : ClientBucket) where
         let first = one_more document in
         omega (arith, parts, first)
 
-    looks_so : (d : DocumentCursor) (document : List ℕ) (t : CheckTurned) → ReadsList awaited past b d at (given ++ document ∷ []) → IsListed past b document → Looks at d document found count t → TurnReads awaited past b t
+    looks_so : (d : DocumentCursor) (document : List ℕ) (t : CheckTurned) → ReadsList awaited past b d at (given ++ document ∷ []) → IsListedIndex past b document → Looks at d document found count t → TurnReads awaited past b t
     looks_so d document t l listed (check.looked i room read is) = as_turned t (check.goes _) is (created, given ++ document ∷ [], one_more document, found_on at given document i read found has, l)
     looks_so d document t l listed (check.too_many many is) = as_turned t (check.fails _) is (let heard = many_heard d document l in fails.too_many d.cursor l.of_list (omega (arith, many, heard)) refl)
     looks_so d document t l listed (check.broke e failed is) = as_turned t (check.fails e) is (fails.no_index document listed failed)
@@ -229,7 +229,7 @@ module _ (awaited : Awaited) (past : Past) (b : ClientBucket) where
     advance_so left advance.Pending t sought h = as_turned t (check.pends (reads at left found count)) h (created, given, so_many, has, sought)
     advance_so left (advance.Ready true) t sought h =
         let same : sought.0 ≡ h.0 = same_some sought.0 h.0 (sym sought.1 ∙ h.1) in
-        looks_so left h.0 t (subst (λ (document : List ℕ). ReadsList awaited past b left at (given ++ document ∷ [])) same sought.3) (subst (IsListed past b) same sought.2) h.2
+        looks_so left h.0 t (subst (λ (document : List ℕ). ReadsList awaited past b left at (given ++ document ∷ [])) same sought.3) (subst (IsListedIndex past b) same sought.2) h.2
     advance_so left (advance.Ready false) t sought h = ends_so at created found t (given, sought, has, subst (λ (n : ℕ). n ≤ 1048576) (sym so_many) few) h
     advance_so left (advance.Failed e) t sought h = as_turned t (check.fails e) h sought
 

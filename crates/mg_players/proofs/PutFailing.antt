@@ -148,11 +148,11 @@ module _ (t : PutTask) (taken rest : List ℕ) (whole : joined t.pieces ≡ take
       subst (λ (a : Aim). 2 ^ 31 * a.size < total t.pieces) aim (many_bytes (2 ^ 31) u.sent count u.aim.size (length cut.front) (length u.behind) (length taken) (length rest) (total t.pieces) front within parts all_bytes many)
 
   -- the next full chunks pass the greatest number
-  pub full_many : 0 < u.aim.size → (count : ℕ) → 0 < count → IsCutAt u taken 0 → count * u.aim.size ≤ length u.behind → 2 ^ 31 < u.sent + count → HasManyChunks t
+  full_many : 0 < u.aim.size → (count : ℕ) → 0 < count → IsCutAt u taken 0 → count * u.aim.size ≤ length u.behind → 2 ^ 31 < u.sent + count → HasManyChunks t
   full_many room count some cut within many = let x = one_fewer (2 ^ 31) u.sent count u.aim.size (length u.behind) room some within many in has_many x.0 cut x.1 x.2
 
   -- so does the last one
-  pub last_many : u.behind ≢ [] → IsCutAt u taken 0 → 2 ^ 31 < u.sent + 1 → HasManyChunks t
+  last_many : u.behind ≢ [] → IsCutAt u taken 0 → 2 ^ 31 < u.sent + 1 → HasManyChunks t
   last_many some cut many = let left = some_bytes u.behind some in has_many 0 cut (omega (arith, left)) (omega (arith, many))
 
   built_as : (e : Error) → NotBuilt u.aim e → IsPutError t e

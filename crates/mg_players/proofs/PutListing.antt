@@ -48,7 +48,7 @@ use Rattle.mg_gridfs.specs.Commands.{listing_lines}
 use Rattle.mg_gridfs.specs.declared.indexes.Place.{Place}
 use Rattle.mg_players.specs.InTurn.{AreInTurn, NoneBehind, empty_by, empty_taken, empty_with, newest}
 use Rattle.mg_players.specs.PutFailures as fails
-use Rattle.mg_players.specs.PutFailures.{AreListed, IsListBatch, IsListed, IsOfList, PutCheckFails, ReadsList, HeardList, brought, documents_by, documents_held, documents_in, first_batch, held_by, its_documents, last_empty, next_batch}
+use Rattle.mg_players.specs.PutFailures.{AreListedIndexes, IsListBatch, IsListedIndex, IsOfList, PutCheckFails, ReadsList, HeardList, brought, documents_by, documents_held, batch_documents, first_batch, held_by, its_documents, last_empty, next_batch}
 use Rattle.mg_players.proofs.InTurn.{BatchFrom, HeardLater, NextLater, all_taken, batch_from, came_later, empty_on, from_hand, from_reply, heard_on, more_grows, near, newest_on, pending_more, sends_one, turn_behind}
 use Rattle.mg_players.proofs.JustGrown.{GrowsBehind, GrowsJust, SendsNoMore, alone_at, alone_grows, just_behind, log_just, none_after}
 
@@ -79,10 +79,10 @@ module _ (past past' : Past) (just : GrowsJust past past') (b : ClientBucket) wh
   batch_grows bytes (first_batch at heard success) = first_batch at (heard_reply past past' grows (fields_in (listing_lines b at)) bytes heard) success
   batch_grows bytes (next_batch c l h) = next_batch c (of_list_grows c l) (more_grows past past' grows c bytes h)
 
-  pub listed_grows : (document : List ℕ) → IsListed past b document → IsListed past' b document
+  pub listed_grows : (document : List ℕ) → IsListedIndex past b document → IsListedIndex past' b document
   listed_grows document l = record { bytes = l.bytes; batch = batch_grows l.bytes l.batch; front = l.front; after = l.after; holds = l.holds }
 
-  left_grows : (d : DocumentCursor) → (d.behind ≡ []) ⊎ (AreListed past b d.behind × (d.empty ≡ 0)) → (d.behind ≡ []) ⊎ (AreListed past' b d.behind × (d.empty ≡ 0))
+  left_grows : (d : DocumentCursor) → (d.behind ≡ []) ⊎ (AreListedIndexes past b d.behind × (d.empty ≡ 0)) → (d.behind ≡ []) ⊎ (AreListedIndexes past' b d.behind × (d.empty ≡ 0))
   left_grows d (inl none) = inl none
   left_grows d (inr l) = inr (record { bytes = l.0.bytes; batch = batch_grows l.0.bytes l.0.batch; front = l.0.front; holds = l.0.holds }, l.1)
 
@@ -112,17 +112,17 @@ module _ (past past' : Past) (still : SendsNoMore past past') (b : ClientBucket)
 
 -- ---- its cursor
 
-documents_on : (replies : List (ℕ × List ℕ)) (place : ℕ) (bytes : List ℕ) → documents_by (replies ++ (place, bytes) ∷ []) ≡ documents_by replies ++ documents_in bytes
-documents_on [] place bytes = append-nil (documents_in bytes)
-documents_on (x ∷ more) place bytes = ap (λ (ds : List (List ℕ)). documents_in x.1 ++ ds) (documents_on more place bytes) ∙ sym (append_assoc (documents_in x.1) (documents_by more) (documents_in bytes))
+documents_on : (replies : List (ℕ × List ℕ)) (place : ℕ) (bytes : List ℕ) → documents_by (replies ++ (place, bytes) ∷ []) ≡ documents_by replies ++ batch_documents bytes
+documents_on [] place bytes = append-nil (batch_documents bytes)
+documents_on (x ∷ more) place bytes = ap (λ (ds : List (List ℕ)). batch_documents x.1 ++ ds) (documents_on more place bytes) ∙ sym (append_assoc (batch_documents x.1) (documents_by more) (batch_documents bytes))
 
 -- they are as many as its batches hold
 held_documents : (replies : List (ℕ × List ℕ)) → length (documents_by replies) ≡ held_by replies
 held_documents [] = refl
-held_documents (x ∷ more) = let rest = held_documents more in length-append (documents_in x.1) (documents_by more) ∙ ap (λ (n : ℕ). length (documents_in x.1) + n) rest
+held_documents (x ∷ more) = let rest = held_documents more in length-append (batch_documents x.1) (documents_by more) ∙ ap (λ (n : ℕ). length (batch_documents x.1) + n) rest
 
 pub brought_are : (past : Past) (b : ClientBucket) (c : ClientCursor) (l : IsOfList past b c) → length (its_documents l) ≡ brought l
-brought_are past b c l = length-append (documents_in l.first) (documents_by l.replies) ∙ ap (λ (n : ℕ). length (documents_in l.first) + n) (held_documents l.replies)
+brought_are past b c l = length-append (batch_documents l.first) (documents_by l.replies) ∙ ap (λ (n : ℕ). length (batch_documents l.first) + n) (held_documents l.replies)
 
 -- nothing is left, and nothing in hand
 none_more : (given left hand : List (List ℕ)) → left ≡ [] → hand ≡ [] → given ++ (left ++ hand) ≡ given
@@ -214,7 +214,7 @@ record Emptied (past : Past) (b : ClientBucket) (d d' : DocumentCursor) (k : Pla
   last : NoneBehind past (newest of_list.place of_list.replies)
 
 abbrev GaveBy : Awaited → AdvanceResult (Unit {0}) → Past → ClientBucket → DocumentCursor → DocumentCursor → Place → List (List ℕ) → Type 0
-GaveBy new (result.Advanced t) past b d d' k given = (document : List ℕ) × (d'.current ≡ Some document) × IsListed past b document × ReadsList new past b (uncounted d') k (given ++ document ∷ [])
+GaveBy new (result.Advanced t) past b d d' k given = (document : List ℕ) × (d'.current ≡ Some document) × IsListedIndex past b document × ReadsList new past b (uncounted d') k (given ++ document ∷ [])
 GaveBy new result.Exhausted past b d d' k given = HeardList past b k given
 GaveBy new result.Waiting past b d d' k given = Emptied past b d d' k given
 
@@ -224,7 +224,7 @@ AdvancedBy new (try.Ready a) past b d d' k given = GaveBy new a past b d d' k gi
 AdvancedBy new (try.Failed e) past b d d' k given = PutCheckFails past b e
 
 module _ (new : Awaited) (past : Past) (b : ClientBucket) (d : DocumentCursor) (k : Place) (given : List (List ℕ)) where
-  gives_next : (old : Awaited) (x : List ℕ) (xs : List (List ℕ)) → d.behind ≡ x ∷ xs → ((m : ℕ) → client_ticket d.cursor ≡ Some m → new m ≡ old m) → ReadsList old past b d k given → ReadsList new past b (uncounted (record d { current = Some x; behind = xs })) k (given ++ x ∷ []) × IsListed past b x
+  gives_next : (old : Awaited) (x : List ℕ) (xs : List (List ℕ)) → d.behind ≡ x ∷ xs → ((m : ℕ) → client_ticket d.cursor ≡ Some m → new m ≡ old m) → ReadsList old past b d k given → ReadsList new past b (uncounted (record d { current = Some x; behind = xs })) k (given ++ x ∷ []) × IsListedIndex past b x
   gives_next old x xs these same l =
       elim l.left [
         | inl none ↦ absurd (let bad : x ∷ xs ≡ [] = sym these ∙ none in cc)
@@ -249,13 +249,13 @@ module _ (new : Awaited) (past : Past) (b : ClientBucket) (d : DocumentCursor) (
       ]
 
   -- what comes of a batch
-  fills_by : (c : ClientCursor) (bytes : List ℕ) (documents : List (List ℕ)) → documents_of bytes ≡ Some documents → c.doing ≡ rests → (l : IsOfList past b c) → l.at ≡ k → IsListBatch past b bytes → last_empty l ≡ empty_with d.empty (documents_of bytes) → its_documents l ≡ given ++ documents_in bytes → newest l.place l.replies < length past.calls → NoneBehind past (newest l.place l.replies) → AdvancedBy new (advance_by documents) past b d (filled_with c documents d) k given
+  fills_by : (c : ClientCursor) (bytes : List ℕ) (documents : List (List ℕ)) → documents_of bytes ≡ Some documents → c.doing ≡ rests → (l : IsOfList past b c) → l.at ≡ k → IsListBatch past b bytes → last_empty l ≡ empty_with d.empty (documents_of bytes) → its_documents l ≡ given ++ batch_documents bytes → newest l.place l.replies < length past.calls → NoneBehind past (newest l.place l.replies) → AdvancedBy new (advance_by documents) past b d (filled_with c documents d) k given
   fills_by c bytes [] holds_so rested l its batch in_row sum within last =
-      let none : documents_in bytes ≡ [] = ap (λ (o : Option (List (List ℕ))). unwrap_or o []) holds_so in
+      let none : batch_documents bytes ≡ [] = ap (λ (o : Option (List (List ℕ))). unwrap_or o []) holds_so in
       record { of_list = l; is_at = its; one_more = in_row ∙ ap (λ (o : Option (List (List ℕ))). empty_with d.empty o) holds_so; rested = rested; behind_none = refl; same_count = refl; all = sum ∙ ap (λ (ds : List (List ℕ)). given ++ ds) none ∙ append-nil given; within = within; last = last }
   fills_by c bytes (x ∷ xs) holds_so rested l its batch in_row sum within last =
       let none_last : last_empty l ≡ 0 = in_row ∙ ap (λ (o : Option (List (List ℕ))). empty_with d.empty o) holds_so in
-      let some : documents_in bytes ≡ x ∷ xs = ap (λ (o : Option (List (List ℕ))). unwrap_or o []) holds_so in
+      let some : batch_documents bytes ≡ x ∷ xs = ap (λ (o : Option (List (List ℕ))). unwrap_or o []) holds_so in
       let no_hand : xs ++ documents_held c.doing ≡ xs = ap (λ (y : client.Doing). xs ++ documents_held y) rested ∙ append-nil xs in (
         x,
         refl,
@@ -277,7 +277,7 @@ module _ (new : Awaited) (past : Past) (b : ClientBucket) (d : DocumentCursor) (
   as_advanced : (d' e : DocumentCursor) (r q : TryPoll) → d' ≡ e → r ≡ q → AdvancedBy new q past b d e k given → AdvancedBy new r past b d d' k given
   as_advanced d' e r q is answer h = subst (λ (x : TryPoll). AdvancedBy new x past b d d' k given) (sym answer) (subst (λ (x : DocumentCursor). AdvancedBy new q past b d x k given) (sym is) h)
 
-  by_fill : (c : ClientCursor) (bytes : List ℕ) (d' : DocumentCursor) (r : TryPoll) → Fills d c bytes d' r → IsListBatch past b bytes → c.doing ≡ rests → (m : IsOfList past b c) → m.at ≡ k → last_empty m ≡ empty_with d.empty (documents_of bytes) → its_documents m ≡ given ++ documents_in bytes → newest m.place m.replies < length past.calls → NoneBehind past (newest m.place m.replies) → AdvancedBy new r past b d d' k given
+  by_fill : (c : ClientCursor) (bytes : List ℕ) (d' : DocumentCursor) (r : TryPoll) → Fills d c bytes d' r → IsListBatch past b bytes → c.doing ≡ rests → (m : IsOfList past b c) → m.at ≡ k → last_empty m ≡ empty_with d.empty (documents_of bytes) → its_documents m ≡ given ++ batch_documents bytes → newest m.place m.replies < length past.calls → NoneBehind past (newest m.place m.replies) → AdvancedBy new r past b d d' k given
   by_fill c bytes d' r (giving.filled documents holds_so where_is answer) batch rested m its in_row sum within last = as_advanced d' (filled_with c documents d) r (advance_by documents) where_is answer (fills_by c bytes documents holds_so rested m its batch in_row sum within last)
   by_fill c bytes d' r (giving.broken e breaks where_is answer) batch rested m its in_row sum within last = as_advanced d' d' r (try.Failed e) refl answer (fails.broken bytes batch breaks)
 
@@ -304,7 +304,7 @@ module _ (new : Awaited) (past : Past) (b : ClientBucket) (d : DocumentCursor) (
     gave_by c bytes d' r (from_hand at is) held heard h =
         let hand = l.hand bytes at in
         let batch : IsListBatch past b bytes = subst (IsListBatch past b) hand.0 (first_batch its.at (record { place = its.place; heard = its.heard }) its.success) in
-        let in_it : documents_held d.cursor.doing ≡ documents_in bytes = ap documents_held at in
+        let in_it : documents_held d.cursor.doing ≡ batch_documents bytes = ap documents_held at in
         let none_taken : d.empty ≡ 0 = l.empties ∙ ap (λ (y : client.Doing). empty_taken y (last_empty l.of_list)) at in
         let in_row : last_empty l.of_list ≡ empty_with d.empty (documents_of bytes)
         = ap (λ (rs : List (ℕ × List ℕ)). empty_by (empty_with 0 (documents_of l.of_list.first)) rs) hand.1 ∙ ap (λ (bs : List ℕ). empty_with 0 (documents_of bs)) hand.0 ∙ ap (λ (n : ℕ). empty_with n (documents_of bytes)) (sym none_taken) in
@@ -313,9 +313,9 @@ module _ (new : Awaited) (past : Past) (b : ClientBucket) (d : DocumentCursor) (
     gave_by c bytes d' r (from_reply none_in may said says is) held (inr later) h =
         let m : IsOfList past b c = heard_next past b bytes d.cursor c said its later may.held says is in
         let had : its_documents l.of_list ≡ given = l.all ∙ none_more given d.behind (documents_held d.cursor.doing) none_left (none_held d.cursor.doing none_in) in
-        let first = documents_in l.of_list.first in
-        let sum : its_documents m ≡ given ++ documents_in bytes
-        = ap (λ (ds : List (List ℕ)). first ++ ds) (documents_on l.of_list.replies later.more.heard.place bytes) ∙ sym (append_assoc first (documents_by l.of_list.replies) (documents_in bytes)) ∙ ap (λ (ds : List (List ℕ)). ds ++ documents_in bytes) had in
+        let first = batch_documents l.of_list.first in
+        let sum : its_documents m ≡ given ++ batch_documents bytes
+        = ap (λ (ds : List (List ℕ)). first ++ ds) (documents_on l.of_list.replies later.more.heard.place bytes) ∙ sym (append_assoc first (documents_by l.of_list.replies) (batch_documents bytes)) ∙ ap (λ (ds : List (List ℕ)). ds ++ batch_documents bytes) had in
         let there = get_within past.calls later.more.heard.place later.more.heard.heard.call later.more.heard.heard.there in
         let at_end = newest_on l.of_list.place l.of_list.replies later.more.heard.place bytes in
         let taken : d.empty ≡ last_empty l.of_list = l.empties ∙ all_taken (last_empty l.of_list) d.cursor.doing none_in in
@@ -356,7 +356,7 @@ module _ (new : Awaited) (past : Past) (b : ClientBucket) (d : DocumentCursor) (
 -- behind advances up to a document
 abbrev pub SoughtBy : Awaited → ClientBucket → AdvancePoll → Past → DocumentCursor → Place → List (List ℕ) → Type 0
 SoughtBy new b advance.Pending past d' k given = ReadsList new past b d' k given
-SoughtBy new b (advance.Ready true) past d' k given = (document : List ℕ) × (d'.current ≡ Some document) × IsListed past b document × ReadsList new past b d' k (given ++ document ∷ [])
+SoughtBy new b (advance.Ready true) past d' k given = (document : List ℕ) × (d'.current ≡ Some document) × IsListedIndex past b document × ReadsList new past b d' k (given ++ document ∷ [])
 SoughtBy new b (advance.Ready false) past d' k given = HeardList past b k given
 SoughtBy new b (advance.Failed e) past d' k given = PutCheckFails past b e
 

@@ -5,8 +5,7 @@ use Rattle.std.proofs.lemmas.Bool.{cases_Bool}
 use Rattle.mg_bson.specs.Tree.{Fields}
 use Rattle.mg_link.specs.Commands.{as_collection, as_database, filter_stages, whole_target}
 use Rattle.mg_link.specs.Filter.{Condition, has_dot}
-use Rattle.mg_link.specs.Namespace.{Space, Target, database, collection, cluster, target}
-use Rattle.mg_ops.specs.Naming.{IsNamed}
+use Rattle.mg_link.specs.Namespace.{Target, database, collection, cluster, target}
 use Rattle.mg_link.specs.State.{Start, Watch}
 use Rattle.mg_link.specs.declared.namespace.OperationTarget.{OperationTarget}
 use Rattle.mg_link.specs.declared.namespace.OperationTarget.TheVariants as targets
@@ -33,20 +32,6 @@ database_same (b ∷ bs) d h =
 collection_same : (coll c : List ℕ) → as_collection coll ≡ Some c → coll ≡ c
 collection_same [] c h = absurd cc
 collection_same (b ∷ bs) c h = cc
-
-same_or_none : (a : Option (List ℕ)) (x : List ℕ) → ((y : List ℕ) → a ≡ Some y → x ≡ y) → (a ≡ Some x) ⊎ (a ≡ Some x → ⊥)
-same_or_none None x same = inr (λ e. absurd cc)
-same_or_none (Some y) x same = inl (ap Some (sym (same y refl)))
-
-pub named_or_not : (space : Space) → IsNamed space ⊎ (IsNamed space → ⊥)
-named_or_not space =
-    elim (same_or_none (as_database space.db) space.db (database_same space.db)) [
-      | inl db ↦ elim (same_or_none (as_collection space.coll) space.coll (collection_same space.coll)) [
-        | inl coll ↦ inl (record { db = db; coll = coll })
-        | inr other ↦ inr (λ named. other named.coll)
-      ]
-      | inr other ↦ inr (λ named. other named.db)
-    ]
 
 -- two names that are there
 record Named (a b : Option (List ℕ)) (t : Target) : Type 0 where

@@ -32,7 +32,8 @@ use Rattle.mg_players.specs.Asking.{AllAskOn}
 use Rattle.mg_players.specs.Counts.{PolledBy, one_if}
 use Rattle.mg_players.specs.Drawing.{as_sent, supply_of}
 use Rattle.mg_players.specs.Follows.{FollowedFrom, IsArgsFor, IsUnfinished, poll_of}
-use Rattle.mg_players.specs.Gets.{AsksPlainly, GetTask, IsFindAt, chunks_find, get_bucket, get_of, more_chunks, no_room, record_find, room_of}
+use Rattle.mg_players.specs.Buckets.{plain_bucket}
+use Rattle.mg_players.specs.Gets.{AsksPlainly, GetTask, IsFindAt, chunks_find, get_of, more_chunks, no_room, record_find, room_of}
 use Rattle.mg_gridfs.specs.Buckets.{IsSize}
 use Rattle.mg_gridfs.specs.Causes.{IsUploading}
 use Rattle.mg_gridfs.specs.Storing.{HasCleared, HasStored}
@@ -265,13 +266,13 @@ FollowCaused awaited c i count calls wire on start filter batch (ended.Failed e)
 -- chunks of this file, at most twice.
 pub record OpeningAsks (calls : List Call) (wire : ℤ) (g : GetTask) (found : Option FileRecord) (places : List ℕ) : Type 0 where
   pub finds : FallsAt (IsFindAt g found) calls 5 places 1
-  pub heard : (f : FileRecord) → found ≡ Some f → HeardRecord (sent_at places calls wire) (get_bucket g.at) g.id (Some f)
+  pub heard : (f : FileRecord) → found ≡ Some f → HeardRecord (sent_at places calls wire) (plain_bucket g.at) g.id (Some f)
 
 -- its opening heard this record, and listed the chunks of no other file, and none where it has no bytes
 pub record GetOpened (c : Course) (i : ℕ) (calls : List Call) (wire : ℤ) (g : GetTask) (f : FileRecord) : Type 0 where
   pub places : List ℕ
   pub sent : AllSentIn c i 0 places
-  pub heard : HeardRecord (sent_at places calls wire) (get_bucket g.at) g.id (Some f)
+  pub heard : HeardRecord (sent_at places calls wire) (plain_bucket g.at) g.id (Some f)
   pub finds : FallsAt (IsFindAt g (Some f)) calls 5 places 1
 
 -- so many calls behind an opening gave so many bytes: each gave one or more, and no more than a read has room for
@@ -305,14 +306,14 @@ pub record GetStopped (c : Course) (i : ℕ) (calls : List Call) (wire : ℤ) (g
 pub data GetFails (c : Course) (i : ℕ) (calls : List Call) (wire : ℤ) (g : GetTask) (bytes : ℕ) (e : Error) : Type 0 where
   out_of_memory : e.kind ≡ kind.OutOfMemory → GetFails c i calls wire g bytes e
   has_no_room : g.read ≡ 0 → e ≡ no_room → GetFails c i calls wire g bytes e
-  not_opened : 0 < g.read → (places : List ℕ) → AllSentIn c i 0 places → files.OpeningFails (sent_at places calls wire) (get_bucket g.at) g.id e → places ≡ places_of c i → GetFails c i calls wire g bytes e
+  not_opened : 0 < g.read → (places : List ℕ) → AllSentIn c i 0 places → files.OpeningFails (sent_at places calls wire) (plain_bucket g.at) g.id e → places ≡ places_of c i → GetFails c i calls wire g bytes e
   not_read : 0 < g.read → (d : ClientDownload) (opened : GetOpened c i calls wire g d.file) (k : ℕ) → suc (suc k) ≤ turns_done i c.order c.notes → (places : List ℕ) → AllSentIn c i (suc k) places → (cursor : ClientCursor) → ReadFails (sent_at places calls wire) d cursor e
       → cursor_in d.doing ≡ Some cursor → IsSoundDownload d → AsksPlainly d → GetSent c i calls g bytes opened.places k places → GetStopped c i calls wire g d.file cursor places e → GetFails c i calls wire g bytes e
 
 -- What a get waits for: the record, or the list of the chunks of the record that was heard, for which all was sent; or more of them.
 pub data GetWaits (awaited : Awaited) (c : Course) (i : ℕ) (calls : List Call) (wire : ℤ) (g : GetTask) (bytes : ℕ) : Type 0 where
   for_record : (places : List ℕ) → AllSentIn c i 0 places → IsAwaited awaited (sent_at places calls wire) (record_find g) → places ≡ places_of c i → GetWaits awaited c i calls wire g bytes
-  for_chunks : (places : List ℕ) → AllSentIn c i 0 places → (f : FileRecord) → HeardRecord (sent_at places calls wire) (get_bucket g.at) g.id (Some f) → IsAwaited awaited (sent_at places calls wire) (chunks_find g f.id) → places ≡ places_of c i → GetWaits awaited c i calls wire g bytes
+  for_chunks : (places : List ℕ) → AllSentIn c i 0 places → (f : FileRecord) → HeardRecord (sent_at places calls wire) (plain_bucket g.at) g.id (Some f) → IsAwaited awaited (sent_at places calls wire) (chunks_find g f.id) → places ≡ places_of c i → GetWaits awaited c i calls wire g bytes
   for_more : (k : ℕ) (places : List ℕ) → AllSentIn c i (suc k) places → (cursor : ℤ) (space : Space) → IsAwaited awaited (sent_at places calls wire) (more_chunks cursor space)
       → (f : FileRecord) (opened : GetOpened c i calls wire g f) → GetSent c i calls g bytes opened.places k places → GetWaits awaited c i calls wire g bytes
 

@@ -4,7 +4,7 @@ use Rattle.std.specs.declared.alloc.Global.{Global}
 use Rattle.mg_bson.specs.Tree.{Fields, Tree}
 use Rattle.mg_bson.specs.View.{tree}
 use Rattle.mg_link.specs.Errors.{plain}
-use Rattle.mg_link.specs.Files.{Bucket, chunks_space, files_space}
+use Rattle.mg_link.specs.Files.{Bucket}
 use Rattle.mg_link.specs.Link.{Awaited}
 use Rattle.mg_link.specs.Log.{Call}
 use Rattle.mg_link.specs.Namespace.{Space}
@@ -14,7 +14,7 @@ use Rattle.mg_link.specs.declared.error.Error.{Error}
 use Rattle.mg_link.specs.declared.error.ErrorKind.TheVariants as kind
 use Rattle.mg_options.specs.Fields.{fields_in}
 use Rattle.mg_ops.specs.Cursors.{Manner, next_command}
-use Rattle.mg_gridfs.specs.Buckets.{ClientBucket, default_chunk_size}
+use Rattle.mg_gridfs.specs.Buckets.{ClientBucket}
 use Rattle.mg_gridfs.specs.Commands.{found_lines, listed_lines}
 use Rattle.mg_gridfs.specs.Downloaded.{IsPlainAt, KnowsDownload, KnowsOpening, doing_owner, looking_owner}
 use Rattle.mg_gridfs.specs.Downloads as downloads
@@ -27,6 +27,7 @@ use Rattle.mg_gridfs.specs.ReadCauses.{cursor_in}
 use Rattle.mg_records.specs.FileRecords.{FileRecord}
 use Rattle.mg_script.specs.declared.outcome.Ended.{Ended}
 use Rattle.mg_script.specs.declared.outcome.Ended.TheVariants as ended
+use Rattle.mg_players.specs.Buckets.{plain_bucket}
 use Rattle.mg_players.specs.declared.get.GetPlayer.{GetPlayer}
 use Rattle.mg_players.specs.declared.get.GetStage.{GetStage}
 use Rattle.mg_players.specs.declared.get.GetStage.TheVariants as gets
@@ -45,10 +46,6 @@ get_of db bucket id read = record { at = record { db = db; name = bucket }; id =
 
 abbrev pub sought : Sought → GetTask
 sought s = get_of s.db.now (string_bytes s.bucket.now) (tree s.id.now) s.read
-
--- its bucket has no concerns
-abbrev pub get_bucket : Bucket → ClientBucket
-get_bucket at = record { files = files_space at; chunks = chunks_space at; chunk_size = default_chunk_size; writes = None; reads = None; asks = None }
 
 -- an opening of this file, whose bucket is a copy
 pub record IsOpeningFor (g : GetTask) (o : ClientFinding) : Type 0 where
@@ -73,11 +70,11 @@ no_room = plain (kind.InvalidArgument argument.ReadSize)
 
 -- asks for the record of the file
 abbrev pub record_find : GetTask → Fields
-record_find g = fields_in (found_lines (get_bucket g.at) g.id)
+record_find g = fields_in (found_lines (plain_bucket g.at) g.id)
 
 -- asks for the chunks of the file whose record has this id
 abbrev pub chunks_find : GetTask → Tree → Fields
-chunks_find g id = fields_in (listed_lines (get_bucket g.at) id)
+chunks_find g id = fields_in (listed_lines (plain_bucket g.at) id)
 
 -- each batch has the size that the server chooses
 abbrev pub no_manner : Manner

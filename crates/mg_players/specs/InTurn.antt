@@ -19,14 +19,14 @@ abbrev pub NoneBehind : Past → ℕ → Type 0
 NoneBehind past last = (place : ℕ) → HasSentAt past place → place ≤ last
 
 -- behind the first of these places it sent nothing before the second
-abbrev pub IsNext : Past → ℕ → ℕ → Type 0
-IsNext past last next = (last < next) × ((place : ℕ) → HasSentAt past place → last < place → next ≤ place)
+abbrev pub IsNextSent : Past → ℕ → ℕ → Type 0
+IsNextSent past last next = (last < next) × ((place : ℕ) → HasSentAt past place → last < place → next ≤ place)
 
 -- The call heard these replies to the getMores of a cursor that the server held, which left it so: each at its place in the log, and between that of the one before
 -- and its own the call sent nothing.
 abbrev pub AreInTurn : Past → ClientCursor → ℕ → List (ℕ × List ℕ) → ClientCursor → Type 0
 AreInTurn past c last [] c' = c' ≡ at_rest c
-AreInTurn past c last (h ∷ more) c' = IsNext past last h.0 × (c.id ≢ pos 0) × (session : Option Session) × HeardAt past h.0 (get_more c session) (reply h.1) × IsSuccess h.1 × (said : Cursor) × (cursor_of (fields h.1) ≡ Ok said) × AreInTurn past (behind_reply said c) h.0 more c'
+AreInTurn past c last (h ∷ more) c' = IsNextSent past last h.0 × (c.id ≢ pos 0) × (session : Option Session) × HeardAt past h.0 (get_more c session) (reply h.1) × IsSuccess h.1 × (said : Cursor) × (cursor_of (fields h.1) ≡ Ok said) × AreInTurn past (behind_reply said c) h.0 more c'
 
 -- the place of the newest
 abbrev pub newest : ℕ → List (ℕ × List ℕ) → ℕ

@@ -1,3 +1,4 @@
+pub mod Buckets
 pub mod Kinds
 pub mod Plays
 pub mod Playing

@@ -46,10 +46,6 @@ Knowledge P = Awaited → List Call → P → Owner → Option ℕ → Type 0
 abbrev pub Account : Type 0 → Type 1
 Account P = Awaited → List Call → ℤ → Places → Supply → Task → P → Option ℕ → Type 0
 
--- a job that tells nothing
-abbrev pub says_nothing : {P : Type 0} → Account P
-says_nothing awaited calls wire q supply t p at = Unit {0}
-
 -- it may be given a turn over a link
 pub record CanGo {P : Type 0} (ticket : P → Option ℕ) (keeps : ℤ → P → Type 0) (awaited : Awaited) (wire : ℤ) (p : P) : Type 0 where
   pub out : IsOut awaited (ticket p)

@@ -67,15 +67,15 @@ abbrev pub brought : {past : Past} {b : ClientBucket} {c : ClientCursor} → IsO
 brought l = held_in l.first + held_by l.replies
 
 -- these documents, batch behind batch
-abbrev pub documents_in : List ℕ → List (List ℕ)
-documents_in bytes = unwrap_or (documents_of bytes) []
+abbrev pub batch_documents : List ℕ → List (List ℕ)
+batch_documents bytes = unwrap_or (documents_of bytes) []
 
 abbrev pub documents_by : List (ℕ × List ℕ) → List (List ℕ)
 documents_by [] = []
-documents_by (h ∷ more) = documents_in h.1 ++ documents_by more
+documents_by (h ∷ more) = batch_documents h.1 ++ documents_by more
 
 abbrev pub its_documents : {past : Past} {b : ClientBucket} {c : ClientCursor} → IsOfList past b c → List (List ℕ)
-its_documents l = documents_in l.first ++ documents_by l.replies
+its_documents l = batch_documents l.first ++ documents_by l.replies
 
 -- how many of these batches are empty at their end
 abbrev pub last_empty : {past : Past} {b : ClientBucket} {c : ClientCursor} → IsOfList past b c → ℕ
@@ -84,7 +84,7 @@ last_empty l = empty_by (empty_with 0 (documents_of l.first)) l.replies
 -- the documents of the reply in hand
 abbrev pub documents_held : client.Doing → List (List ℕ)
 documents_held client.rests = []
-documents_held (holds bytes) = documents_in bytes
+documents_held (holds bytes) = batch_documents bytes
 documents_held (client.asks sending) = []
 
 -- the call heard this batch of such a list
@@ -93,7 +93,7 @@ pub data IsListBatch (past : Past) (b : ClientBucket) (bytes : List ℕ) : Type 
   next_batch : (c : ClientCursor) → IsOfList past b c → HeardMore past c bytes → IsListBatch past b bytes
 
 -- the document stands in such a batch
-pub record IsListed (past : Past) (b : ClientBucket) (document : List ℕ) : Type 0 where
+pub record IsListedIndex (past : Past) (b : ClientBucket) (document : List ℕ) : Type 0 where
   pub bytes : List ℕ
   pub batch : IsListBatch past b bytes
   pub front : List (List ℕ)
@@ -101,7 +101,7 @@ pub record IsListed (past : Past) (b : ClientBucket) (document : List ℕ) : Typ
   pub holds : documents_of bytes ≡ Some (front ++ document ∷ after)
 
 -- so do these, at its end
-pub record AreListed (past : Past) (b : ClientBucket) (documents : List (List ℕ)) : Type 0 where
+pub record AreListedIndexes (past : Past) (b : ClientBucket) (documents : List (List ℕ)) : Type 0 where
   pub bytes : List ℕ
   pub batch : IsListBatch past b bytes
   pub front : List (List ℕ)
@@ -114,7 +114,7 @@ pub record ReadsList (awaited : Awaited) (past : Past) (b : ClientBucket) (d : D
   pub of_list : IsOfList past b d.cursor
   pub is_at : of_list.at ≡ k
   pub hand : (bytes : List ℕ) → d.cursor.doing ≡ holds bytes → (of_list.first ≡ bytes) × (of_list.replies ≡ [])
-  pub left : (d.behind ≡ []) ⊎ (AreListed past b d.behind × (d.empty ≡ 0))
+  pub left : (d.behind ≡ []) ⊎ (AreListedIndexes past b d.behind × (d.empty ≡ 0))
   pub empties : d.empty ≡ empty_taken d.cursor.doing (last_empty of_list)
   pub few : d.empty < most_empty
   pub all : its_documents of_list ≡ given ++ (d.behind ++ documents_held d.cursor.doing)
@@ -245,7 +245,7 @@ pub data PutCheckFails (past : Past) (b : ClientBucket) (e : Error) : Type 0 whe
   broken : (bytes : List ℕ) → IsListBatch past b bytes → BreaksBatch bytes e → PutCheckFails past b e
   stays_empty : (c : ClientCursor) (l : IsOfList past b c) → last_empty l ≡ most_empty → NoneBehind past (newest l.place l.replies) → e ≡ plain kind.EmptyBatches → PutCheckFails past b e
   -- an item of it is no index
-  no_index : (document : List ℕ) → IsListed past b document → FailsToRead (recorded (index_of (fields document))) e → PutCheckFails past b e
+  no_index : (document : List ℕ) → IsListedIndex past b document → FailsToRead (recorded (index_of (fields document))) e → PutCheckFails past b e
   -- or it has too many
   too_many : (c : ClientCursor) (l : IsOfList past b c) → 1048576 < brought l → e ≡ plain kind.TooManyDocuments → PutCheckFails past b e
 

@@ -13,7 +13,7 @@ use Rattle.mg_link.specs.declared.error.ErrorKind.TheVariants as kind
 use Rattle.mg_link.specs.declared.error.Malformed.{Malformed}
 use Rattle.mg_records.specs.FileRecords.{chunk_count_of}
 use Rattle.mg_ops.specs.Naming.{IsNamed}
-use Rattle.mg_gridfs.specs.Buckets.{ClientBucket, default_chunk_size}
+use Rattle.mg_gridfs.specs.Buckets.{ClientBucket}
 use Rattle.mg_gridfs.specs.Cursors.{KnowsCursors, upload_owner}
 use Rattle.mg_gridfs.specs.Uploads.{Aim, ClientUpload, Doing, Phase, abort, begins, busy, checks, close, closed, ends, fills, idle, inserts, lands, lasts, records, removes, rests, undoes, upload_ticket, write}
 use Rattle.mg_gridfs.specs.UploadView.{IsUpload, upload_of}
@@ -21,6 +21,7 @@ use Rattle.mg_gridfs.specs.declared.stream.GridFsUploadStream.{GridFsUploadStrea
 use Rattle.mg_script.specs.Plan as plan
 use Rattle.mg_script.specs.declared.outcome.Ended.{Ended}
 use Rattle.mg_script.specs.declared.outcome.Ended.TheVariants as ended
+use Rattle.mg_players.specs.Buckets.{plain_bucket}
 use Rattle.mg_players.specs.Kept.{ids_left}
 use Rattle.mg_players.specs.declared.put.Beginning.{Beginning}
 use Rattle.mg_players.specs.declared.put.PutPlayer.{PutPlayer}
@@ -56,7 +57,7 @@ writes w = put_of w.db.now (string_bytes w.bucket.now) (string_bytes w.name.now)
 
 -- its bucket has no concerns
 abbrev pub put_bucket : PutTask → ClientBucket
-put_bucket t = record { files = files_space t.at; chunks = chunks_space t.at; chunk_size = default_chunk_size; writes = None; reads = None; asks = None }
+put_bucket t = plain_bucket t.at
 
 -- its upload has no metadata
 abbrev pub put_aim : PutTask → Aim

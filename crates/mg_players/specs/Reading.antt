@@ -93,7 +93,7 @@ pub record IsListOf (past : Past) (g : GetTask) (f : FileRecord) (c : ClientCurs
 
 -- How the cursor of a read stands, behind so many empty replies in a row: the list of the chunks opened it, whose reply it holds before it asked for more; and
 -- where the steps were answered at once it has ended behind an empty one.
-pub record IsListed (past : Past) (g : GetTask) (f : FileRecord) (empty : ℕ) (c : ClientCursor) : Type 0 where
+pub record ListsChunks (past : Past) (g : GetTask) (f : FileRecord) (empty : ℕ) (c : ClientCursor) : Type 0 where
   pub named : IsNamed (chunks_space g.at)
   pub told : IsTold past c
   pub held : (bytes : List ℕ) → c.doing ≡ holds bytes → (empty ≡ 0) × IsListOf past g f c bytes
@@ -108,7 +108,7 @@ empties spoiled = 0
 
 -- so does the cursor of a download, where it has one
 abbrev pub ListsIts : Past → GetTask → ClientDownload → Type 0
-ListsIts past g d = (c : ClientCursor) → cursor_in d.doing ≡ Some c → IsListed past g d.file (empties d.doing) c
+ListsIts past g d = (c : ClientCursor) → cursor_in d.doing ≡ Some c → ListsChunks past g d.file (empties d.doing) c
 
 -- a reply in hand, unread from an earlier call, is that to the list of the chunks
 abbrev pub HeardHeld : Past → GetTask → FileRecord → ClientCursor → Type 0

@@ -28,7 +28,8 @@ use Rattle.mg_gridfs.specs.Causes.{IsUploading}
 use Rattle.mg_gridfs.specs.Storing.{KnowsUpload}
 use Rattle.mg_gridfs.specs.Uploads.{ClientUpload, upload_error}
 use Rattle.mg_gridfs.specs.UploadView.{upload_of}
-use Rattle.mg_players.specs.Gets.{AsksPlainly, GetKnowsAt, GetTask, IsFindAt, IsGetCommand, IsOpeningFor, get_bucket, no_room, sought}
+use Rattle.mg_players.specs.Buckets.{plain_bucket}
+use Rattle.mg_players.specs.Gets.{AsksPlainly, GetKnowsAt, GetTask, IsFindAt, IsGetCommand, IsOpeningFor, no_room, sought}
 use Rattle.mg_players.specs.Headline.{AllKnow, GetPlays, Plays, task_of}
 use Rattle.mg_cursor.specs.Client.{ClientCursor}
 use Rattle.mg_gridfs.specs.Downloads.{ClientDownload, IsSoundDownload}
@@ -244,7 +245,7 @@ FindsSoFar calls g places doing = FallsAt (IsFindAt g (found_in doing)) calls 5 
 -- The opening sent at the places told of it: it heard this record, and listed the chunks of its file by the call at this place. What was sent behind it asks for
 -- more of them, each by the cursor that the reply to the command before told.
 pub record TellsGetOpened (calls : List Call) (wire : ℤ) (q : Places) (g : GetTask) (f : FileRecord) (at : Option ℕ) : Type 0 where
-  pub heard : HeardRecord (sent_at q.opened calls wire) (get_bucket g.at) g.id (Some f)
+  pub heard : HeardRecord (sent_at q.opened calls wire) (plain_bucket g.at) g.id (Some f)
   pub listed : (place : ℕ) → at ≡ Some place → IsOf q.opened place
   pub finds : FallsAt (IsFindAt g (Some f)) calls 5 q.opened 1
   pub more : AllAskOn calls (all_places q) (concat q.owns ++ q.now)
@@ -258,7 +259,7 @@ pub data TellsAsked (calls : List Call) (wire : ℤ) (q : Places) (g : GetTask) 
 pub data TellsGetFails (calls : List Call) (wire : ℤ) (q : Places) (g : GetTask) (done : ℕ) (e : Error) : Type 0 where
   out_of_memory : e.kind ≡ kind.OutOfMemory → TellsGetFails calls wire q g done e
   has_no_room : g.read ≡ 0 → e ≡ no_room → TellsGetFails calls wire q g done e
-  not_opened : 0 < g.read → TellsNoCall q → done ≡ 0 → files.OpeningFails (sent_at q.now calls wire) (get_bucket g.at) g.id e → TellsGetFails calls wire q g done e
+  not_opened : 0 < g.read → TellsNoCall q → done ≡ 0 → files.OpeningFails (sent_at q.now calls wire) (plain_bucket g.at) g.id e → TellsGetFails calls wire q g done e
   not_read : 0 < g.read → 1 ≤ done → (d : ClientDownload) (at : Option ℕ) → TellsGetOpened calls wire q g d.file at → (cursor : ClientCursor) → ReadFails (sent_at q.now calls wire) d cursor e
       → cursor_in d.doing ≡ Some cursor → IsSoundDownload d → AsksPlainly d → suc (length q.owns) ≡ done
       → (listed : ℕ) → IsOf q.opened listed → HeardHeld (sent_at (all_places q) calls wire) g d.file cursor → ReadStops (sent_at (all_places q) calls wire) (HeardEmpty (sent_at (all_places q) calls wire) (sent_at q.now calls wire) g d.file) (ListsOther calls g.at d.file listed e) e → TellsGetFails calls wire q g done e

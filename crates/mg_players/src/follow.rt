@@ -168,7 +168,7 @@ impl<'a> FollowPlayer<'a> {
         ensures { result ≡ record self.entry { stage = next } }
     {
         let mut follow = self;
-        put(&mut follow.stage, next);
+        enter(&mut follow.stage, next);
         follow
     }
 
@@ -463,7 +463,8 @@ fn answer_of(poll: EventPoll) -> Option<Answer>
     }
 }
 
-fn put(stage: &mut Stage, next: Stage)
+/// Puts the next stage in the place of the last one, which is let go by this one call.
+fn enter(stage: &mut Stage, next: Stage)
     ensures { stage.new ≡ next }
 {
     *stage = next;

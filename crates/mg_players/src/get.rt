@@ -1,24 +1,20 @@
 //! A job that reads a file.
-ghost use Rattle.std.specs.Prelude.{◌≡◌, ◌+◌, ◌<◌, ◌≤◌, [], IfErr, IfOk, None, Some, false, length, string_bytes};
+ghost use Rattle.std.specs.Prelude.{◌≡◌, ◌+◌, ◌<◌, ◌≤◌, [], IfErr, IfOk, None, false, length};
 ghost use Rattle.mg_link.specs.Acts.{IsOut, Tickets};
-ghost use Rattle.mg_link.specs.Commands.{as_database};
 ghost use Rattle.mg_link.specs.Errors.{plain};
 ghost use Rattle.mg_link.specs.Link.{Later};
 ghost use Rattle.mg_link.specs.declared.error.ErrorKind.TheVariants as kinds;
-ghost use Rattle.mg_gridfs.specs.Buckets.{bucket_of};
 ghost use Rattle.mg_gridfs.specs.Downloads.{download_ticket};
 ghost use Rattle.mg_gridfs.specs.DownloadView.{IsDownload, download_of, finding_of, ticket_in};
 ghost use Rattle.mg_gridfs.specs.Findings.{IsSoundFinding, finding_ticket, starts};
-ghost use Rattle.mg_players.specs.Gets.{FewCalls, GetStageHolds, IsOpeningFor, KeepsRead, OpensAs, done_behind, get_bucket, get_end, gets_ticket, room_of, sought};
+ghost use Rattle.mg_players.specs.Gets.{FewCalls, GetStageHolds, IsOpeningFor, KeepsRead, OpensAs, done_behind, get_end, gets_ticket, room_of, sought};
 ghost use Rattle.mg_players.specs.Progress.{GetAt, GetGoes};
 ghost use Rattle.mg_players.specs.Telling.{GetTurns};
 
+use crate::bucket::bucket_named;
 use crate::kind::Kind;
 use mg_bson::{Bson, DateTime};
-use mg_gridfs::{
-    DatabaseDefaults, GridFsBucket, GridFsBucketOptions, GridFsDownloadStream, OpenDownloadStream,
-    ReadPoll,
-};
+use mg_gridfs::{GridFsDownloadStream, OpenDownloadStream, ReadPoll};
 use mg_link::{Action, BadArgument, Error, ErrorKind, IdSource, Link, Step, plain};
 use mg_script::{DatabaseName, Ended, Outcome};
 use std::alloc::{AllocError, Global};
@@ -88,22 +84,6 @@ impl Drop for GetPlayer<'_> {
     }
 }
 
-/// A bucket that says nothing but its names.
-fn bucket_named(alloc: Global, db: &DatabaseName, bucket: &String) -> Result<GridFsBucket, Error>
-    ensures ok { IfOk result (λ b. bucket_of b ≡ get_bucket (record { db = db.now; name = string_bytes bucket.now })) }
-    ensures named { as_database db.now ≡ Some db.now }
-    ensures err { IfErr result (λ e. e ≡ plain kinds.OutOfMemory) }
-{
-    let defaults = DatabaseDefaults {
-        name: String::from_str(alloc, db.as_str())?,
-        read_concern: None,
-        write_concern: None,
-        selection_criteria: None,
-    };
-    let options = GridFsBucketOptions::builder().bucket_name(bucket.clone()?);
-    GridFsBucket::new(alloc, defaults, options)
-}
-
 /// An opening of the file. Nothing is sent.
 fn opening_of(alloc: Global, what: Sought<'_>) -> Result<OpenDownloadStream, Error>
     ensures ok { IfOk result (λ o. IsOpeningFor (sought what.entry) (finding_of o)) }
@@ -153,7 +133,7 @@ impl<'a> GetPlayer<'a> {
         ensures { result ≡ record self.entry { stage = next } }
     {
         let mut get = self;
-        put(&mut get.stage, next);
+        enter(&mut get.stage, next);
         get
     }
 
@@ -400,7 +380,8 @@ fn end_of(stage: GetStage) -> Ended<()>
     }
 }
 
-fn put(stage: &mut GetStage, next: GetStage)
+/// Puts the next stage in the place of the last one, which is let go by this one call.
+fn enter(stage: &mut GetStage, next: GetStage)
     ensures { stage.new ≡ next }
 {
     *stage = next;

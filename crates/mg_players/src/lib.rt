@@ -5,6 +5,7 @@
 //! A runner gives the turns, and needs no more of a job than its kind says.
 #![tactic(auto)]
 
+mod bucket;
 mod drawn;
 mod follow;
 mod get;

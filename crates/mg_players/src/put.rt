@@ -1,13 +1,11 @@
 //! A job that writes a file.
 ghost use Rattle.std.specs.Prelude.{◌≡◌, ◌<◌, ◌≤◌, ◌+◌, ◌^◌, ℕ, ℤ, IfErr, IfOk, OnOk, Some, length, slice_get};
 ghost use Rattle.mg_link.specs.Acts.{IsOut};
-ghost use Rattle.mg_link.specs.Commands.{as_database};
 ghost use Rattle.mg_link.specs.Errors.{plain};
 ghost use Rattle.mg_link.specs.declared.error.ErrorKind.TheVariants as kinds;
 ghost use Rattle.mg_link.specs.Link.{Later};
 ghost use Rattle.mg_ops.specs.Drawn.{AreLater};
 ghost use Rattle.mg_records.specs.FileRecords.{chunk_count_of};
-ghost use Rattle.mg_gridfs.specs.Buckets.{bucket_of};
 ghost use Rattle.mg_gridfs.specs.Uploads.{fresh_upload, upload_ticket};
 ghost use Rattle.mg_gridfs.specs.UploadView.{IsUpload, upload_of};
 ghost use Rattle.mg_script.specs.Plan.{pieces};
@@ -15,15 +13,13 @@ ghost use Rattle.mg_players.specs.Drawing.{put_draws};
 ghost use Rattle.mg_players.specs.Kept.{ids_left};
 ghost use Rattle.mg_players.specs.Progress.{PutGoes};
 ghost use Rattle.mg_players.specs.Putting.{Drew, DrewFor, Opens, OpensFrom, PutTurns};
-ghost use Rattle.mg_players.specs.Puts.{CannotOpen, HoldsUpload, IsSamePut, NamesFiles, PutHasIds, put_aim, put_bucket, put_end, total, where_counted, writes};
+ghost use Rattle.mg_players.specs.Puts.{CannotOpen, HoldsUpload, IsSamePut, NamesFiles, PutHasIds, put_aim, put_end, total, where_counted, writes};
 
+use crate::bucket::bucket_named;
 use crate::drawn::{DrawnIds, draw};
 use crate::kind::Kind;
 use mg_bson::{Bson, DateTime};
-use mg_gridfs::{
-    DatabaseDefaults, FilesCollectionDocument, GridFsBucket, GridFsBucketOptions,
-    GridFsUploadStream, Step2, WritePoll,
-};
+use mg_gridfs::{FilesCollectionDocument, GridFsUploadStream, Step2, WritePoll};
 use mg_link::{Error, ErrorKind, IdSource, Link, plain};
 use mg_script::{DatabaseName, Ended, Outcome};
 use std::alloc::Global;
@@ -88,22 +84,6 @@ fn chunks_of(length: u64, chunk: u32) -> u32
     }
 }
 
-/// The bucket of the file.
-fn bucket_for(alloc: Global, what: Written<'_>) -> Result<GridFsBucket, Error>
-    ensures ok { IfOk result (λ b. bucket_of b ≡ put_bucket (writes what.entry)) }
-    ensures named { as_database what.entry.db.now ≡ Some what.entry.db.now }
-    ensures err { IfErr result (λ e. e ≡ plain kinds.OutOfMemory) }
-{
-    let database = DatabaseDefaults {
-        name: String::from_str(alloc, what.db.as_str())?,
-        read_concern: None,
-        write_concern: None,
-        selection_criteria: None,
-    };
-    let options = GridFsBucketOptions::builder().bucket_name(what.bucket.clone()?);
-    GridFsBucket::new(alloc, database, options)
-}
-
 /// An upload of the file, which has sent nothing. Its id is given, so that none is drawn.
 fn upload_for(
     alloc: Global,
@@ -116,7 +96,7 @@ fn upload_for(
     ensures err { IfErr result (CannotOpen (writes what.entry)) }
     ensures undrawn { OnOk result ((k : ℕ) → ids_left ids.new k ≡ ids_left ids.old k) }
 {
-    let bucket = bucket_for(alloc, what)?;
+    let bucket = bucket_named(alloc, what.db, what.bucket)?;
     let id = what.id.clone()?;
     bucket
         .open_upload_stream(what.name.as_str())
