@@ -135,7 +135,7 @@ may_in s (y ∷ ys) zero step legal found = subst (λ (x : Step). May s (asked x
 may_in s (y ∷ ys) (suc position) step legal found = may_in (step_after s y) ys position step legal.1 found
 
 -- a getMore asks for more, or for nothing that has a meaning
-abbrev IsMore : Asked → Type 0
+abbrev pub IsMore : Asked → Type 0
 IsMore a = ((id : ℤ) × (space : Space) × (a ≡ asks_more id space)) ⊎ (a ≡ asks_other)
 
 more_by : (id : Option ℤ) (space : Option Space) → IsMore (unwrap_or (option_and_then (λ x. option_map (asks_more x) space) id) asks_other)
@@ -147,14 +147,17 @@ more_reads : (fs : Fields) → IsMore (unwrap_or (more_of fs) asks_other)
 unfolding more_of
 more_reads fs = more_by (option_and_then as_integer (get (codes "getMore") fs)) (space_at (codes "collection") fs)
 
+pub next_reads : (command : List ℕ) (cursor : ℤ) (space : Space) → fields command ≡ more_chunks cursor space → IsMore (asked command)
+unfolding asked
+next_reads command cursor space is = subst (λ (fs : Fields). IsMore (unwrap_or (asked_by fs) asks_other)) (sym is) (more_reads (more_chunks cursor space))
+
 more_leaves : (command : List ℕ) (at : Bucket) (id : Tree) → IsMore (asked command) → Leaves command at id
 more_leaves command at id (inl m) = leaves_by command at id (asks_more m.0 m.1) m.2 tt tt
 more_leaves command at id (inr other) = leaves_by command at id asks_other other tt tt
 
 -- so it leaves each file
 pub next_leaves : (command : List ℕ) (at : Bucket) (id : Tree) (cursor : ℤ) (space : Space) → fields command ≡ more_chunks cursor space → Leaves command at id
-unfolding asked
-next_leaves command at id cursor space is = more_leaves command at id (subst (λ (fs : Fields). IsMore (unwrap_or (asked_by fs) asks_other)) (sym is) (more_reads (more_chunks cursor space)))
+next_leaves command at id cursor space is = more_leaves command at id (next_reads command cursor space is)
 
 -- a command that a get may send leaves each file
 get_leaves : (g : GetTask) (command : List ℕ) (at : Bucket) (id : Tree) → IsGetCommand g (fields command) → Leaves command at id

@@ -57,13 +57,13 @@ use Rattle.mg_script.specs.Plan.{Begin}
 use Rattle.mg_script.specs.declared.outcome.Answer.{Answer}
 use Rattle.mg_script.specs.declared.outcome.Ended.{Ended}
 use Rattle.mg_script.specs.declared.outcome.Ended.TheVariants as ended
-use Rattle.mg_players.specs.Causes.{AllSentIn, Answered, CallFalls, Course, FallsAt, KillsLast, SentIn, places_of, sent_at, CloseCaused, FollowCaused, OpenCaused, OpenStands, at_rest as at_ease, in_call, in_closing}
+use Rattle.mg_players.specs.Causes.{AllSentIn, Answered, CallFalls, Course, FallsAt, KillsLast, SentIn, places_of, sent_at, CloseCaused, FollowCaused, OpenCaused, OpenStands, OpenWaits, at_rest as at_ease, in_call, in_closing}
 use Rattle.mg_jobs.specs.Completing.{IsThere, MayBegin, NoneRefused}
 use Rattle.mg_jobs.proofs.Created.{is_taken}
 use Rattle.mg_jobs.specs.Fated.{AreItsSteps}
 use Rattle.mg_players.specs.Follows.{IsArgsFor, options_of, poll_of, stages_of, start_of}
 use Rattle.mg_players.specs.Sends.{IsCommandOf, SendsOnly}
-use Rattle.mg_players.specs.Progress.{FollowPlayed}
+use Rattle.mg_players.specs.Progress.{FollowPlayed, pends_last, turns_done}
 use Rattle.mg_players.proofs.Batches.{breaks_not, tells_not}
 use Rattle.mg_players.proofs.Creating.{CreatesNone, asked_creates, asking_none}
 use Rattle.mg_jobs.proofs.FollowFine.{HeardIn, IsFine, IsSent, aggregate_fine, heard_among, kill_fine, more_fine, token_there}
@@ -77,7 +77,7 @@ use Rattle.mg_jobs.proofs.Own.{StandsOwn, called_own, opened_own}
 use Rattle.mg_jobs.proofs.OwnCommands.{alone_aggregate, alone_more, its_body, its_manner, watches_its}
 use Rattle.mg_jobs.proofs.OwnFurther.{stands_further}
 use Rattle.mg_jobs.proofs.OpeningTaken.{fits_size}
-use Rattle.mg_jobs.proofs.PlacesRise.{Rise, below_others, of_either, of_first, of_rise, of_second}
+use Rattle.mg_jobs.proofs.PlacesRise.{Rise, below_others, of_either, of_first, of_rise, of_second, sent_pends}
 use Rattle.mg_jobs.proofs.Positions.{has_position, sent_place}
 use Rattle.mg_players.proofs.Prompting.{prompt_success}
 use Rattle.mg_jobs.proofs.Refusing.{call_at, falls_each}
@@ -583,10 +583,17 @@ module _ (history : List Kept) (fates : List Fate) (kept : AreKept 0 fates) (cal
   none_sent : its ≡ [] → AreFine its
   none_sent none place call p step of there placed here = absurd (subst (λ (l : List ℕ). IsOf l place) none of)
 
-  -- It refused none of them, where the follow had its turns.
-  pub follow_taken : (awaited : Awaited) (count : ℕ) (wire : ℤ) (opened closed : Ended (Unit {0})) (said : List Answer) (token : Option Tree) (alive : Bool) (k : ℕ) (last : Bool) → FollowCaused awaited c i count calls wire on start filter batch opened said token alive closed → FollowPlayed opened closed count (length said) alive k last → suc count ≤ k → NoneRefused c i calls steps
-  follow_taken awaited count wire ended.Unfinished closed said token alive k last caused played turns = let none = played.0 in absurd (omega (arith, none, turns))
-  follow_taken awaited count wire (ended.Gave x) closed said token alive k last caused played turns = none_refused (open_fine awaited count wire said token alive closed caused)
-  follow_taken awaited count wire (ended.Failed e) closed said token alive k last (inl room) played turns = none_refused (none_sent room.1)
-  follow_taken awaited count wire (ended.Failed e) closed said token alive k last (inr f) played turns =
+  -- one that is being opened waits once it sent something
+  opening_fine : (awaited : Awaited) (wire : ℤ) → turns_done i c.order c.notes ≡ 0 → (pends_last i c.order c.notes ≡ true → OpenWaits awaited c i calls wire on start filter batch) → AreFine its
+  opening_fine awaited wire none waits place call p step of =
+      let w = waits (sent_pends c i place none of) in
+      subst AreFine w.whole (openings_fine wire w.places w.args (all_sent 0 w.places w.sent) w.args_are w.opens) place call p step of
+
+  -- It refused none of them.
+  pub follow_taken : (awaited : Awaited) (count : ℕ) (wire : ℤ) (opened closed : Ended (Unit {0})) (said : List Answer) (token : Option Tree) (alive : Bool) → FollowCaused awaited c i count calls wire on start filter batch opened said token alive closed
+      → FollowPlayed opened closed count (length said) alive (turns_done i c.order c.notes) (pends_last i c.order c.notes) → NoneRefused c i calls steps
+  follow_taken awaited count wire ended.Unfinished closed said token alive caused played = none_refused (opening_fine awaited wire played.0 caused)
+  follow_taken awaited count wire (ended.Gave x) closed said token alive caused played = none_refused (open_fine awaited count wire said token alive closed caused)
+  follow_taken awaited count wire (ended.Failed e) closed said token alive (inl room) played = none_refused (none_sent room.1)
+  follow_taken awaited count wire (ended.Failed e) closed said token alive (inr f) played =
       none_refused (subst AreFine f.whole (openings_fine wire f.places f.args (all_sent 0 f.places f.sent) f.args_are f.opens))

@@ -61,6 +61,7 @@ pub mod Granted
 pub mod Makers
 pub mod IndexesMade
 pub mod PutReplies
+pub mod PutKinds
 pub mod PutTaken
 pub mod RunTaken
 pub mod SaidTwice

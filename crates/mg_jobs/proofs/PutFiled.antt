@@ -35,7 +35,7 @@ pub record SomeSent (supply : Supply) (t : PutTask) (ever : Past) (commands : Li
   pub removed : Bool
   pub sends : PutSends supply t ever commands upto moment removed
 
-some_sent : (supply : Supply) (t : PutTask) (ever past : Past) (commands : List Fields) (end : Ended ℕ) → PutEndsSent supply t ever past commands end → SomeSent supply t ever commands
+pub some_sent : (supply : Supply) (t : PutTask) (ever past : Past) (commands : List Fields) (end : Ended ℕ) → PutEndsSent supply t ever past commands end → SomeSent supply t ever commands
 some_sent supply t ever past commands ended.Unfinished h = record { upto = h.1.0; moment = h.1.1; removed = h.0; sends = h.1.2 }
 some_sent supply t ever past commands (ended.Gave n) h = record { upto = length (file_chunks t); moment = Some h.0; removed = false; sends = h.1 }
 some_sent supply t ever past commands (ended.Failed e) h = record { upto = h.1.0; moment = h.1.1; removed = h.0; sends = h.1.2 }

@@ -115,11 +115,11 @@ two_there calls (r ∷ places) p q call other less (inr of) (inr of') there ther
 
 -- ---- the commands of the check
 
-each_on : (P : Fields → Type 0) (xs ys : List Fields) → Each P xs → Each P ys → Each P (xs ++ ys)
+pub each_on : (P : Fields → Type 0) (xs ys : List Fields) → Each P xs → Each P ys → Each P (xs ++ ys)
 each_on P [] ys front back = back
 each_on P (x ∷ xs) ys front back = (front.0, each_on P xs ys front.1 back)
 
-each_time : (P : Fields → Type 0) (n : ℕ) (x : Fields) → P x → Each P (replicate n x)
+pub each_time : (P : Fields → Type 0) (n : ℕ) (x : Fields) → P x → Each P (replicate n x)
 each_time P zero x its = tt
 each_time P (suc n) x its = (its, each_time P n x its)
 
@@ -191,7 +191,7 @@ pub record StandsAt (t : PutTask) (calls : List Call) (places : List ℕ) : Type
   pub there : slice_get calls place ≡ Some call
   pub removes : fields call.command ≡ chunks_removal t
 
-has_place : (calls : List Call) (places : List ℕ) → 1 ≤ length (commands_at calls places) → HasPlace calls places
+pub has_place : (calls : List Call) (places : List ℕ) → 1 ≤ length (commands_at calls places) → HasPlace calls places
 has_place calls [] some = absurd (omega (arith, some))
 has_place calls (q ∷ places) some = by_call (λ more. has_place calls places more) (slice_get calls q) refl some
   where
@@ -199,7 +199,7 @@ has_place calls (q ∷ places) some = by_call (λ more. has_place calls places m
     by_call next None none more = let h = next more in record { place = h.place; of = inr h.of; call = h.call; there = h.there }
     by_call next (Some call) there more = record { place = q; of = inl refl; call = call; there = there }
 
-rise_second : (xs ys : List ℕ) (at : ℕ) → Rise at (xs ++ ys) → Rise at ys
+pub rise_second : (xs ys : List ℕ) (at : ℕ) → Rise at (xs ++ ys) → Rise at ys
 rise_second [] ys at r = r
 rise_second (x ∷ xs) ys at r = let low : at ≤ x = r.0 in rise_above ys at (suc x) (omega (arith, low)) (rise_second xs ys (suc x) r.1)
 

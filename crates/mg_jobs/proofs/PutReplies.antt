@@ -280,12 +280,11 @@ module _ (s : State) (given : ℕ) (command reply : List ℕ) (read : fields rep
 
   -- ---- a find of any record
 
-  pub any_taken : (space : Space) → HasShortNames space → HaveShort s.collections → fields command ≡ fields_in (find_body space empty (any_options None) None) → IsRefused (told (asked command) reply) → ⊥
-  any_taken space names short is refused =
+  pub any_told : (space : Space) → HasShortNames space → HaveShort s.collections → fields command ≡ fields_in (find_body space empty (any_options None) None) → (events : List Fields) × (told (asked command) reply ≡ opened (pos 0) space events None None)
+  any_told space names short is =
       let found : List Fields = map (λ (d : Fields). id_alone (get (codes "_id") d)) (take 1 (filter (matches []) (documents_of s space))) in
       let stored = alone_short (take 1 (filter (matches []) (documents_of s space))) (short_first 1 (filter (matches []) (documents_of s space)) (matching_short [] (documents_of s space) (documents_short s space short))) in
-      let tells = find_told s given (any_query space) found (any_found s space) refl names stored command reply (ap request_of is ∙ any_read space (takes_space space names)) read in
-      subst IsRefused tells refused
+      (first_batch s given (any_query space) found (any_found s space) refl names stored, find_told s given (any_query space) found (any_found s space) refl names stored command reply (ap request_of is ∙ any_read space (takes_space space names)) read)
 
   -- ---- a list of indexes
 

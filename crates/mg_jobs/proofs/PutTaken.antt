@@ -1,11 +1,11 @@
--- A valid put of fresh documents whose collections have short names ends well in the history of the store of its run, which refuses none of the commands that end it.
-use Rattle.std.proofs.Common.{◌≡◌, ◌≤◌, ◌<◌, ◌+◌, ◌++◌, ℕ, zero, suc, ℤ, pos, Bool, List, [], ◌∷◌, length, take, Contains, Option, Some, None, Ok, refl, sym, ap, ◌∙◌, subst, inl, inr, arith}
+-- The store of a run refuses none of the steps of a put whose collections have short names, but a getMore of a namespace that no server takes; and a valid one of fresh documents ends well in its history.
+use Rattle.std.proofs.Common.{◌≡◌, ◌⊎◌, ◌≤◌, ◌<◌, ◌+◌, ◌++◌, ℕ, zero, suc, ℤ, pos, Bool, List, [], ◌∷◌, length, take, Contains, Option, Some, None, Ok, refl, sym, ap, ◌∙◌, subst, inl, inr, arith}
 use Rattle.std.specs.Prelude.{slice_get, slice_index_or}
 use Rattle.std.specs.List.{concat}
 use Rattle.mg_bson.specs.Raw.{fields}
-use Rattle.mg_bson.specs.Tree.{Fields}
+use Rattle.mg_bson.specs.Tree.{Fields, Tree}
 use Rattle.mg_link.specs.Calls.{HeardAt, HeardBy, Past}
-use Rattle.mg_link.specs.Commands.{Asked, Told, asked, asks_create, done, opened, opened_by, time_in}
+use Rattle.mg_link.specs.Commands.{Asked, Told, asked, asks_create, asks_more, asks_other, deleted, done, garbled, gave, inserted, killed, opened, opened_by, refuses, time_in, told, updated}
 use Rattle.mg_link.specs.Exec.{IsSuccess}
 use Rattle.mg_link.specs.History.{IsLegal, Step, state_of, step_after, told_at}
 use Rattle.mg_link.specs.Kept.{IsByRules as AreByRules, Kept, steps_of}
@@ -17,17 +17,18 @@ use Rattle.mg_link.specs.Owner.{IsOf, NamesItsOwn}
 use Rattle.mg_link.specs.Prompt.{HoldsBackNone, IsPrompt}
 use Rattle.mg_link.specs.Rules.{collection_exists}
 use Rattle.mg_link.specs.Session.{Session}
-use Rattle.mg_link.specs.Standing.{Names, SeenFits, Stands}
+use Rattle.mg_link.specs.Standing.{Names, OpensId, SeenFits, Stands}
 use Rattle.mg_link.specs.State.{State, indexes_of}
-use Rattle.mg_link.specs.Step.{effect, grown}
+use Rattle.mg_link.specs.Step.{Made, MayTell, effect, grown}
 use Rattle.mg_link.proofs.Owners.{same_some}
 use Rattle.mg_link.proofs.Places.{get_within}
 use Rattle.mg_link.proofs.SelfMade.{names_whole}
+use Rattle.mg_ops.specs.Bodies.{insert_command}
 use Rattle.mg_ops.specs.Cursors as cursors
 use Rattle.mg_ops.specs.Cursors.{OpensWith, cursor_of}
 use Rattle.mg_ops.specs.Naming.{IsNamed}
 use Rattle.mg_ops.specs.declared.cursor_reply.CursorSpecification.{CursorSpecification}
-use Rattle.mg_ops.proofs.Asking.{asks_for_more}
+use Rattle.mg_ops.proofs.Asking.{asks_for_more, asks_for_more_plainly}
 use Rattle.mg_ops.proofs.AskingMore.{asks_for_indexes, asks_to_create}
 use Rattle.mg_ops.proofs.Reading.{named_read}
 use Rattle.mg_store.specs.InMemory.{AreAsFates, AreKept}
@@ -42,16 +43,21 @@ use Rattle.mg_options.specs.Fields.{fields_in}
 use Rattle.mg_script.specs.declared.outcome.Ended.{Ended}
 use Rattle.mg_players.specs.Causes.{AllSentIn, Course, PutEnds, places_of, sent_at}
 use Rattle.mg_players.specs.Progress.{PutPlayed}
+use Rattle.mg_players.specs.Gets.{no_manner}
 use Rattle.mg_players.specs.InTurn.{AreInTurn}
-use Rattle.mg_players.specs.PutFailures.{HeardCreation, IsOfList}
+use Rattle.mg_players.specs.Owned.{NamesNoOthers}
+use Rattle.mg_players.specs.PutChecks.{IsGetMore, any_find, creation, index_creation, listing}
+use Rattle.mg_players.specs.PutFailures.{IsOfList}
+use Rattle.mg_players.specs.PutSends.{chunks_removal, its_record}
 use Rattle.mg_players.specs.Puts.{PutTask, Supply, put_bucket}
 use Rattle.mg_players.proofs.GetSteps.{query_opens}
 use Rattle.mg_players.proofs.Prompting.{lawful_at, prompted}
-use Rattle.mg_jobs.specs.Completing.{EndsWell, HasShortFiles, HasShortNames, IsTaken, SaysThere, SendFresh, positions_at}
+use Rattle.mg_jobs.specs.Completing.{EndsWell, HasShortFiles, HasShortNames, IsTaken, IsUnnamedMore, NoneRefusedBut, SaysThere, SendFresh, positions_at}
 use Rattle.mg_jobs.specs.Fated.{AreItsSteps}
 use Rattle.mg_jobs.specs.Own.{IsHeard}
 use Rattle.mg_jobs.specs.PutLimits.{HasFewIndexes, IsExcusedPut, IsValidPut}
 use Rattle.mg_jobs.proofs.Created.{creations_meet, is_taken, prompt_where_taken}
+use Rattle.mg_jobs.proofs.Filed.{IsMore, next_reads}
 use Rattle.mg_jobs.proofs.GetTaken.{short_at}
 use Rattle.mg_jobs.proofs.Granted.{granted}
 use Rattle.mg_jobs.proofs.IndexesMade.{HaveOfBucket, HasCollection, few_of_bucket, indexes_at, indexes_there, put_there, there_later}
@@ -59,11 +65,12 @@ use Rattle.mg_jobs.proofs.Makers.{Makes, MakesCommand, makes_asked}
 use Rattle.mg_jobs.proofs.Mild.{IsMildCommand}
 use Rattle.mg_jobs.proofs.Positions.{has_position, sent_place}
 use Rattle.mg_jobs.proofs.PutHeard.{IsKnown, OwnStep, a_creation, a_find, a_getMore, a_listing, a_removal, an_index, of_chunks, of_record, succeeded}
-use Rattle.mg_jobs.proofs.PutReplies.{any_taken, creation_told, index_told, listing_there, listing_told, removal_told}
+use Rattle.mg_jobs.proofs.PutKinds.{AreKinds, PutKind, creates, finds, indexes, inserts_record, into_chunks, lists, reads_on, removes}
+use Rattle.mg_jobs.proofs.PutReplies.{any_told, creation_told, index_told, listing_there, listing_told, removal_told}
 use Rattle.mg_jobs.proofs.PutWell.{put_well}
 use Rattle.mg_jobs.proofs.QueryTaken.{of_batch, takes_space}
-use Rattle.mg_jobs.proofs.Refusing.{get_kept, tells_inserted}
-use Rattle.mg_jobs.proofs.StepsAt.{next_state}
+use Rattle.mg_jobs.proofs.Refusing.{call_at, get_kept, insert_told, took}
+use Rattle.mg_jobs.proofs.StepsAt.{may_at, next_state}
 use Rattle.mg_jobs.proofs.StoreRuns.{IsRuled, never_fault, ruled_at}
 use Rattle.mg_jobs.proofs.WatchStands.{opens_some}
 
@@ -78,6 +85,27 @@ created_there s step at asks says =
     let g : State = grown s step.made in
     subst (λ (a : Asked). HasCollection (effect g a (told_at step)).collections at) (sym asks)
     (subst (λ (t : Told). HasCollection (effect g (asks_create at) t).collections at) (sym says) (put_there (record { space = at; documents = []; indexes = indexes_of g at }) g.collections))
+
+-- a reply opens a cursor only to a command that may open one
+is_opened : (t : Told) (x : ℤ) → OpensId t x → (id : ℤ) × (at : Space) × (events : List Fields) × (token : Option Tree) × (time : Option ℕ) × (t ≡ opened id at events token time)
+is_opened (opened id at events token time) x opens = (id, at, events, token, time, refl)
+is_opened (refuses code labels) x opens = absurd opens
+is_opened (inserted n failures) x opens = absurd opens
+is_opened (updated n changed failures) x opens = absurd opens
+is_opened (deleted n failures) x opens = absurd opens
+is_opened done x opens = absurd opens
+is_opened (gave id at events token) x opens = absurd opens
+is_opened killed x opens = absurd opens
+is_opened garbled x opens = absurd opens
+
+module _ (s s' : State) (made : Made) where
+  may_open : (a : Asked) (t : Told) (x : ℤ) → MayTell s s' a t made → OpensId t x → (id : ℤ) × (at : Space) × (events : List Fields) × (token : Option Tree) × (time : Option ℕ) × MayTell s s' a (opened id at events token time) made
+  may_open a t x may opens = let o = is_opened t x opens in (o.0, o.1, o.2, o.3, o.4, subst (λ (u : Told). MayTell s s' a u made) o.5 may)
+
+  -- a getMore opens none
+  never_opens : (a : Asked) (t : Told) (x : ℤ) → IsMore a → MayTell s s' a t made → OpensId t x → ⊥
+  never_opens a t x (inl m) may opens = (may_open (asks_more m.0 m.1) t x (subst (λ (b : Asked). MayTell s s' b t made) m.2 may) opens).5
+  never_opens a t x (inr other) may opens = (may_open asks_other t x (subst (λ (b : Asked). MayTell s s' b t made) other may) opens).5
 
 module _ (history : List Kept) (fates : List Fate) (kept : AreKept 0 fates) (calls : List Call) (pended : List ℕ) (as_fates : AreAsFates history fates calls pended) (stands : Stands calls (steps_of history)) (alone : AreItsSteps history calls)
     (ruled : AreByRules history) (mild : (p : ℕ) (k : Kept) → slice_get history p ≡ Some k → IsMildCommand (fields k.command)) (legal : IsLegal (steps_of history)) (prompt : HoldsBackNone (steps_of history))
@@ -119,6 +147,142 @@ module _ (history : List Kept) (fates : List Fate) (kept : AreKept 0 fates) (cal
       by_place zero less is = is
       by_place (suc k) less is = absurd (omega (arith, less))
 
+  -- ---- what its steps tell
+
+  -- a step is not refused, and opens no cursor
+  record IsFine (step : Step) : Type 0 where
+    taken : IsTaken (asked step.command) (told_at step)
+    opens_none : (x : ℤ) → OpensId (told_at step) x → ⊥
+
+  fine_by : (step : Step) (t : Told) → told_at step ≡ t → IsTaken (asked step.command) t → ((x : ℤ) → OpensId t x → ⊥) → IsFine step
+  fine_by step t is taken none = record { taken = subst (IsTaken (asked step.command)) (sym is) taken; opens_none = λ x opens. none x (subst (λ (y : Told). OpensId y x) is opens) }
+
+  module _ (t : PutTask) (may : HasShortFiles t.at) where
+    find_fine : (p : ℕ) (step : Step) → slice_get steps p ≡ Some step → fields step.command ≡ any_find (put_bucket t) → IsFine step
+    find_fine p step there is =
+        let r = ruled_there p step there in
+        let short = short_at history fates kept calls pended as_fates stands alone ruled mild legal prompt p step there in
+        let tells = any_told (state_at p) r.given step.command step.reply r.read (files_space t.at) may.files_short short is in
+        fine_by step (opened (pos 0) (files_space t.at) tells.0 None None) tells.1 tt (λ x opens. opens.1 (sym opens.0))
+
+    creation_fine : (at : Place) (p : ℕ) (step : Step) → slice_get steps p ≡ Some step → fields step.command ≡ creation (put_bucket t) at → IsFine step
+    creation_fine at p step there is =
+        let here : Space = space_in (put_bucket t) at in
+        let names = short_in t may at in
+        let r = ruled_there p step there in
+        let asks = asks_to_create step.command here None None names.named is in
+        elim (creation_told (state_at p) r.given step.command step.reply r.read here (takes_space here names) is) [
+          | inl made ↦ fine_by step done made tt (λ x opens. opens)
+          | inr known ↦ fine_by step (refuses collection_exists []) known.1 (subst (λ (a : Asked). SaysThere a collection_exists) (sym asks) refl) (λ x opens. opens)
+        ]
+
+    -- behind a creation, whatever became of it, the collection is there
+    there_behind : (at : Place) (q : ℕ) (made : Step) → slice_get steps q ≡ Some made → fields made.command ≡ creation (put_bucket t) at → (p : ℕ) (step : Step) → slice_get steps p ≡ Some step → q < p → HasCollection (state_at p).collections (space_in (put_bucket t) at)
+    there_behind at q made before is p step there less =
+        let here : Space = space_in (put_bucket t) at in
+        let names = short_in t may at in
+        let r = ruled_there q made before in
+        let within = get_within steps p step there in
+        elim (creation_told (state_at q) r.given made.command made.reply r.read here (takes_space here names) is) [
+          | inl so ↦
+              let next : HasCollection (state_at (suc q)).collections here =
+              subst (λ (s : State). HasCollection s.collections here) (sym (next_state steps q made before)) (created_there (state_at q) made here (asks_to_create made.command here None None names.named is) so) in
+              there_later steps makes_at here (suc q) p (omega (arith, less)) (omega (arith, within)) next
+          | inr known ↦ there_later steps makes_at here q p (omega (arith, less)) (omega (arith, within)) known.0
+        ]
+
+    listing_fine : (at : Place) (p : ℕ) (step : Step) → slice_get steps p ≡ Some step → HasCollection (state_at p).collections (space_in (put_bucket t) at) → fields step.command ≡ listing (put_bucket t) at → IsFine step
+    listing_fine at p step there has is =
+        let here : Space = space_in (put_bucket t) at in
+        let r = ruled_there p step there in
+        let whole = listing_told (state_at p) r.given step.command step.reply r.read here (short_in t may at) has (have_at p step there) is in
+        fine_by step (opened (pos 0) here whole.0 None None) whole.1 tt (λ x opens. opens.1 (sym opens.0))
+
+    index_fine : (at : Place) (p : ℕ) (step : Step) → slice_get steps p ≡ Some step → fields step.command ≡ index_creation (put_bucket t) at → IsFine step
+    index_fine at p step there is =
+        let here : Space = space_in (put_bucket t) at in
+        let r = ruled_there p step there in
+        fine_by step done (index_told (state_at p) r.given step.command step.reply r.read here (takes_space here (short_in t may at)) at (have_at p step there) is) tt (λ x opens. opens)
+
+    insert_fine : (at : Space) (documents : List Fields) (p : ℕ) (step : Step) → slice_get steps p ≡ Some step → HasShortNames at → fields step.command ≡ insert_command at documents → IsFine step
+    insert_fine at documents p step there names is =
+        let r = ruled_there p step there in
+        let tells = insert_told (state_at p) (pos (suc r.given)) step.command step.reply at documents names is r.read in
+        fine_by step (inserted tells.0 tells.1) tells.2 tt (λ x opens. opens)
+
+    removal_fine : (p : ℕ) (step : Step) → slice_get steps p ≡ Some step → fields step.command ≡ chunks_removal t → IsFine step
+    removal_fine p step there is =
+        let r = ruled_there p step there in
+        let short = short_at history fates kept calls pended as_fates stands alone ruled mild legal prompt p step there in
+        let gone = removal_told (state_at p) r.given step.command step.reply r.read (chunks_space t.at) (takes_space (chunks_space t.at) may.chunks_short) t.id short is in
+        fine_by step (deleted gone.0 []) gone.1 tt (λ x opens. opens)
+
+    -- ---- all its steps, by what it sent
+
+    -- the step of a call, and its command
+    record StepOf (place : ℕ) (call : Call) (p : ℕ) (step : Step) : Type 0 where
+      found : slice_get calls place ≡ Some call
+      placed : call.position ≡ Some p
+      there : slice_get steps p ≡ Some step
+      same_command : fields step.command ≡ fields call.command
+
+    step_of : (place : ℕ) (call : Call) (p : ℕ) (step : Step) → slice_get calls place ≡ Some call → call.position ≡ Some p → slice_get steps p ≡ Some step → StepOf place call p step
+    step_of place call p step found placed there =
+        let s = stands.same place call p found placed in
+        record { found = found; placed = placed; there = there; same_command = ap (λ (x : Step). fields x.command) (same_some step s.0 (sym there ∙ s.1)) ∙ ap fields s.2 }
+
+    -- each is fine but a getMore
+    kind_fine : (place : ℕ) (call : Call) (p : ℕ) (step : Step) → StepOf place call p step → PutKind calls t place (fields call.command) → IsGetMore (fields step.command) ⊎ IsFine step
+    kind_fine place call p step s (finds is) = inr (find_fine p step s.there (s.same_command ∙ is))
+    kind_fine place call p step s (creates at is) = inr (creation_fine at p step s.there (s.same_command ∙ is))
+    kind_fine place call p step s (lists at before first found creates_it less is) =
+        let q : ℕ = length (took history fates kept calls pended as_fates stands before first found).before in
+        let placed = (took history fates kept calls pended as_fates stands before first found).placed in
+        let x = stands.same before first q found placed in
+        let rises = stands.rising before place first call q p less found s.found placed s.placed in
+        inr (listing_fine at p step s.there (there_behind at q x.0 x.1 (ap fields x.2 ∙ creates_it) p step s.there rises) (s.same_command ∙ is))
+    kind_fine place call p step s (reads_on more) = inl (subst IsGetMore (sym s.same_command) more)
+    kind_fine place call p step s (indexes at is) = inr (index_fine at p step s.there (s.same_command ∙ is))
+    kind_fine place call p step s (into_chunks documents) = inr (insert_fine (chunks_space t.at) documents.0 p step s.there may.chunks_short (s.same_command ∙ documents.1))
+    kind_fine place call p step s (inserts_record moment is) = inr (insert_fine (files_space t.at) (its_record t moment ∷ []) p step s.there may.files_short (s.same_command ∙ is))
+    kind_fine place call p step s (removes is) = inr (removal_fine p step s.there (s.same_command ∙ is))
+
+    module _ (c : Course) (i : ℕ) (kinds : AreKinds calls t (places_of c i)) (names : NamesNoOthers calls c i) where
+      abbrev its : List ℕ
+      its = places_of c i
+
+      -- none of its steps opens a cursor
+      opens_none : (place : ℕ) (call : Call) (p : ℕ) (step : Step) → IsOf its place → StepOf place call p step → (x : ℤ) → OpensId (told_at step) x → ⊥
+      opens_none place call p step of s x opens = elim (kind_fine place call p step s (kinds place call of s.found)) [
+        | inl more ↦ never_opens (state_at p) (grown (state_at p) step.made) step.made (asked step.command) (told_at step) x (next_reads step.command more.0 more.1 more.2) (may_at steps p step legal s.there).tells opens
+        | inr fine ↦ fine.opens_none x opens
+      ]
+
+      -- so none of them asks for more of one
+      never_asks : (place : ℕ) (call : Call) (p : ℕ) (step : Step) → IsOf its place → StepOf place call p step → (id : ℤ) (space : Space) → asked step.command ≡ asks_more id space → ⊥
+      never_asks place call p step of s id space asks =
+          let same = (stands.same place call p s.found s.placed) in
+          let command : step.command ≡ call.command = ap (λ (x : Step). x.command) (same_some step same.0 (sym s.there ∙ same.1)) ∙ same.2 in
+          let named : Names (asked step.command) id = subst (λ (a : Asked). Names a id) (sym asks) refl in
+          let given = names_whole calls steps own legal stands place call id s.found (subst (λ (d : List ℕ). Names (asked d) id) command named) in
+          let first = stands.placed given.at given.call given.bytes given.found given.saw in
+          let x = stands.same given.at given.call first.0 given.found first.1 in
+          let reply_is : given.bytes ≡ x.0.reply = subst (λ (y : Sight). SeenFits y x.0.reply) given.saw x.3 in
+          let opens : OpensId (told_at x.0) id = subst (λ (b : List ℕ). OpensId (told (asked x.0.command) b) id) reply_is (subst (λ (d : List ℕ). OpensId (told (asked d) given.bytes) id) (sym x.2) given.opens) in
+          let less = stands.rising given.at place given.call call first.0 p given.earlier given.found s.found first.1 s.placed in
+          let mine = names steps legal stands place p step of (record { call = call; found = s.found; placed = s.placed; there = s.there }) id named given.at first.0 x.0 (record { call = given.call; found = given.found; placed = first.1; there = x.1 }) less opens in
+          opens_none given.at given.call first.0 x.0 mine (step_of given.at given.call first.0 x.0 given.found first.1 x.1) id opens
+
+      -- None of them is refused but a getMore of a namespace that no server takes.
+      pub put_taken : NoneRefusedBut IsUnnamedMore c i calls steps
+      put_taken position step own_step at =
+          let by = call_at calls its position own_step in
+          let s = step_of by.place by.call position step by.there by.position_is at in
+          elim (kind_fine by.place by.call position step s (kinds by.place by.call by.of by.there)) [
+            | inl more ↦ inl (more.0, more.1, more.2, λ named. never_asks by.place by.call position step by.of s more.0 more.1 (asks_for_more_plainly step.command more.0 more.1 no_manner named more.2))
+            | inr fine ↦ inr fine.taken
+          ]
+
   module _ (c : Course) (i : ℕ) (wire : ℤ) (n : ℕ) (places : List ℕ) (sent : AllSentIn c i n places) (t : PutTask) (may : HasShortFiles t.at) where
     abbrev past : Past
     past = sent_at places calls wire
@@ -128,24 +292,6 @@ module _ (history : List Kept) (fates : List Fate) (kept : AreKept 0 fates) (cal
 
     step_of_heard : (place : ℕ) (command : Fields) (bytes : List ℕ) (h : HeardAt past place command (reply bytes)) → HeardStep place h.call command bytes
     step_of_heard place command bytes h = heard_step place h.call command bytes h.there h.command_is h.has_seen
-
-    -- ---- the creation of a collection
-
-    there_behind : (at : Place) (created : HeardCreation past (put_bucket t) at) (p : ℕ) (step : Step) → slice_get steps p ≡ Some step → (step_of_heard created.place (fields_in (creation_lines (put_bucket t) at)) created.bytes created.heard).position < p → HasCollection (state_at p).collections (space_in (put_bucket t) at)
-    there_behind at created p step there less =
-        let here : Space = space_in (put_bucket t) at in
-        let names = short_in t may at in
-        let h = step_of_heard created.place (fields_in (creation_lines (put_bucket t) at)) created.bytes created.heard in
-        let q : ℕ = h.position in
-        let r = ruled_there q h.step h.there in
-        let within = get_within steps p step there in
-        elim (creation_told (state_at q) r.given h.step.command h.step.reply r.read here (takes_space here names) h.command_is) [
-          | inl made ↦
-              let next : HasCollection (state_at (suc q)).collections here =
-              subst (λ (s : State). HasCollection s.collections here) (sym (next_state steps q h.step h.there)) (created_there (state_at q) h.step here (asks_to_create h.step.command here None None names.named h.command_is) made) in
-              there_later steps makes_at here (suc q) p (omega (arith, less)) (omega (arith, within)) next
-          | inr known ↦ there_later steps makes_at here q p (omega (arith, less)) (omega (arith, within)) known.0
-        ]
 
     -- ---- a list of indexes comes whole, so that none is read on
 
@@ -189,44 +335,17 @@ module _ (history : List Kept) (fates : List Fate) (kept : AreKept 0 fates) (cal
 
     taken_by : (place : ℕ) (command : Fields) (bytes : List ℕ) (h : HeardAt past place command (reply bytes)) (s : HeardStep place h.call command bytes) → IsKnown past t place command bytes → IsTaken (asked s.step.command) (told_at s.step)
     taken_by place command bytes h s (succeeded success) = is_taken (asked s.step.command) (told_at s.step) (granted (asked s.step.command) s.step.reply (subst IsSuccess s.reply_is success))
-    taken_by place command bytes h s (a_find is) =
-        let r = ruled_there s.position s.step s.there in
-        let short = short_at history fates kept calls pended as_fates stands alone ruled mild legal prompt s.position s.step s.there in
-        is_taken (asked s.step.command) (told_at s.step) (any_taken (state_at s.position) r.given s.step.command s.step.reply r.read (files_space t.at) may.files_short short (s.command_is ∙ is))
-    taken_by place command bytes h s (a_creation at is) =
-        let here : Space = space_in (put_bucket t) at in
-        let names = short_in t may at in
-        let r = ruled_there s.position s.step s.there in
-        let asks = asks_to_create s.step.command here None None names.named (s.command_is ∙ is) in
-        elim (creation_told (state_at s.position) r.given s.step.command s.step.reply r.read here (takes_space here names) (s.command_is ∙ is)) [
-          | inl made ↦ subst (λ (x : Told). IsTaken (asked s.step.command) x) (sym made) tt
-          | inr known ↦ subst (λ (x : Told). IsTaken (asked s.step.command) x) (sym known.1) (subst (λ (a : Asked). SaysThere a collection_exists) (sym asks) refl)
-        ]
+    taken_by place command bytes h s (a_find is) = (find_fine t may s.position s.step s.there (s.command_is ∙ is)).taken
+    taken_by place command bytes h s (a_creation at is) = (creation_fine t may at s.position s.step s.there (s.command_is ∙ is)).taken
     taken_by place command bytes h s (a_listing at created less is) =
-        let here : Space = space_in (put_bucket t) at in
-        let names = short_in t may at in
-        let r = ruled_there s.position s.step s.there in
         let before = step_of_heard created.place (fields_in (creation_lines (put_bucket t) at)) created.bytes created.heard in
         let rises = stands.rising created.place place created.heard.call h.call before.position s.position less created.heard.there h.there before.position_is s.position_is in
-        let whole = listing_told (state_at s.position) r.given s.step.command s.step.reply r.read here names (there_behind at created s.position s.step s.there rises) (have_at s.position s.step s.there) (s.command_is ∙ is) in
-        subst (λ (x : Told). IsTaken (asked s.step.command) x) (sym whole.1) tt
+        (listing_fine t may at s.position s.step s.there (there_behind t may at before.position before.step before.there before.command_is s.position s.step s.there rises) (s.command_is ∙ is)).taken
     taken_by place command bytes h s (a_getMore c l session is) = absurd (never_more c l session place bytes (subst (λ (fs : Fields). HeardAt past place fs (reply bytes)) is h))
-    taken_by place command bytes h s (an_index at is) =
-        let here : Space = space_in (put_bucket t) at in
-        let r = ruled_there s.position s.step s.there in
-        let made = index_told (state_at s.position) r.given s.step.command s.step.reply r.read here (takes_space here (short_in t may at)) at (have_at s.position s.step s.there) (s.command_is ∙ is) in
-        subst (λ (x : Told). IsTaken (asked s.step.command) x) (sym made) tt
-    taken_by place command bytes h s (of_chunks documents is) =
-        let r = ruled_there s.position s.step s.there in
-        is_taken (asked s.step.command) (told_at s.step) (tells_inserted (state_at s.position) (pos (suc r.given)) s.step.command s.step.reply (chunks_space t.at) documents may.chunks_short (s.command_is ∙ is) r.read)
-    taken_by place command bytes h s (of_record document is) =
-        let r = ruled_there s.position s.step s.there in
-        is_taken (asked s.step.command) (told_at s.step) (tells_inserted (state_at s.position) (pos (suc r.given)) s.step.command s.step.reply (files_space t.at) (document ∷ []) may.files_short (s.command_is ∙ is) r.read)
-    taken_by place command bytes h s (a_removal is) =
-        let r = ruled_there s.position s.step s.there in
-        let short = short_at history fates kept calls pended as_fates stands alone ruled mild legal prompt s.position s.step s.there in
-        let gone = removal_told (state_at s.position) r.given s.step.command s.step.reply r.read (chunks_space t.at) (takes_space (chunks_space t.at) may.chunks_short) t.id short (s.command_is ∙ is) in
-        subst (λ (x : Told). IsTaken (asked s.step.command) x) (sym gone.1) tt
+    taken_by place command bytes h s (an_index at is) = (index_fine t may at s.position s.step s.there (s.command_is ∙ is)).taken
+    taken_by place command bytes h s (of_chunks documents is) = (insert_fine t may (chunks_space t.at) documents s.position s.step s.there may.chunks_short (s.command_is ∙ is)).taken
+    taken_by place command bytes h s (of_record document is) = (insert_fine t may (files_space t.at) (document ∷ []) s.position s.step s.there may.files_short (s.command_is ∙ is)).taken
+    taken_by place command bytes h s (a_removal is) = (removal_fine t may s.position s.step s.there (s.command_is ∙ is)).taken
 
     -- ---- its own steps
 

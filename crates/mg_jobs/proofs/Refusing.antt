@@ -6,7 +6,7 @@ use Rattle.std.proofs.lemmas.List.Elements.{Contains-append_cases, Contains-push
 use Rattle.std.proofs.lemmas.Option.{slice_get_within}
 use Rattle.mg_bson.specs.Raw.{fields}
 use Rattle.mg_bson.specs.Tree.{Fields, Tree}
-use Rattle.mg_link.specs.Commands.{Asked, asked, asks_insert, inserted, told}
+use Rattle.mg_link.specs.Commands.{Asked, Failure, asked, asks_insert, inserted, told}
 use Rattle.mg_link.specs.History.{IsLegal, Step, state_of, told_at}
 use Rattle.mg_link.specs.Kept.{IsByRules as AreByRules, Kept, given_after, given_of, state_behind, state_of_kept, step_of, steps_from, steps_of}
 use Rattle.mg_link.specs.Link.{Awaited}
@@ -52,8 +52,8 @@ use Rattle.mg_script.specs.declared.outcome.Ended.{Ended}
 use Rattle.mg_script.specs.declared.outcome.Ended.TheVariants as ended
 use Rattle.mg_script.specs.declared.outcome.Outcome.{Outcome}
 use Rattle.mg_script.specs.declared.outcome.Turned.{Turned}
-use Rattle.mg_players.specs.Causes.{AllSentIn, Course, FallsAt, FollowCaused, InsertEnds, OutcomeCaused, command_at, commands_at, course, places_of}
-use Rattle.mg_jobs.specs.Completing.{AnswersWell, EndsWell, Excuses, FindsNothing, FitsLimits, FollowEndsIn, FollowWell, GetWell, HasShortFiles, HasShortNames, IsMemory, IsThere, JobWell, JobWellIn, MayBegin, NoneRefused, OutcomeEnds, OutcomeEndsIn, PutEndsIn, SendFresh, StandsWhole, own_excuses, own_position, positions_at}
+use Rattle.mg_players.specs.Causes.{AllSentIn, Course, FallsAt, FollowCaused, OutcomeCaused, command_at, commands_at, course, places_of}
+use Rattle.mg_jobs.specs.Completing.{AnswersWell, EndsWell, Excuses, FindsNothing, FitsLimits, FollowEndsIn, FollowWell, GetWell, HasShortFiles, HasShortNames, IsMemory, IsThere, JobTaken, JobWell, JobWellIn, MayBegin, NoneRefused, OutcomeEnds, OutcomeEndsIn, PutEndsIn, SendFresh, StandsWhole, own_excuses, own_position, positions_at}
 use Rattle.mg_players.specs.Counts.{StartedBy}
 use Rattle.mg_players.specs.Drawing.{as_sent, supply_of}
 use Rattle.mg_jobs.specs.Fated.{AreItsSteps}
@@ -137,13 +137,6 @@ full_own c i calls (insert ns docs) e room = inl room
 full_own c i calls (put db bucket name id chunk pieces) e room = inl room
 full_own c i calls (get db bucket id read) e room = inl room
 
--- none of the steps of a follow is refused that may begin and had its turns, nor of a get of a file that is whole, from collections with short names
-abbrev pub TakesValid : Course → ℕ → List Call → List Step → Task → Type 0
-TakesValid c i calls history (follow on count start filter batch) = (SizePasses batch → ⊥) → suc count ≤ turns_done i c.order c.notes → MayBegin c i calls history on start filter → NoneRefused c i calls history
-TakesValid c i calls history (insert ns docs) = Unit {0}
-TakesValid c i calls history (put db bucket name id chunk pieces) = Unit {0}
-TakesValid c i calls history (get db bucket id read) = HasShortFiles (get_of db bucket id read).at → (bytes : List ℕ) → StandsWhole c i calls history (get_of db bucket id read) bytes → NoneRefused c i calls history
-
 -- a valid put of fresh documents ends well whose names may be
 abbrev pub PutsWell : Excuses → Course → ℕ → List Call → List Step → Task → Outcome → Type 0
 PutsWell excuses c i calls history (follow on count start filter batch) = λ r. Unit {0}
@@ -182,16 +175,18 @@ aggregate_mild command a wire is =
 
 -- ---- the step of an insert
 
--- the rules' reply to an insert of these names tells of no refusal
-pub tells_inserted : (s : State) (id : ℤ) (command given : List ℕ) (at : Space) (ds : List Fields) → HasShortNames at → fields command ≡ insert_command at ds → fields given ≡ (answer_of s id (fields command)).reply → IsRefused (told (asked command) given) → ⊥
-tells_inserted s id command given at ds names is read refused =
+-- what the rules' reply to an insert of these names tells
+pub insert_told : (s : State) (id : ℤ) (command given : List ℕ) (at : Space) (ds : List Fields) → HasShortNames at → fields command ≡ insert_command at ds → fields given ≡ (answer_of s id (fields command)).reply → (n : ℤ) × (failures : List Failure) × (told (asked command) given ≡ inserted n failures)
+insert_told s id command given at ds names is read =
     let i = inserting at true 0 (length s.changes) (documents_of s at) ds in
     let by = inserting_is at true 0 (length s.changes) (documents_of s at) ds in
     let reply_is : fields given ≡ inserted_reply i = read ∙ ap (λ (a : Reply). a.reply) (ap (answer_of s id) is ∙ inserts_so s id at ds names) in
-    let tells : told (asked command) given ≡ inserted (pos (length i.documents)) (failing true 0 (documents_of s at) ds) =
-    ap (λ (a : Asked). told a given) (asks_to_insert_plainly command at ds names.named is) ∙ told_reads (asks_insert at ds true) given (inserted_reply i) reply_is
-    ∙ insert_tells at ds true i (failing true 0 (documents_of s at) ds) by.failures_are by.errors_keep in
-    subst IsRefused tells refused
+    (
+      pos (length i.documents),
+      failing true 0 (documents_of s at) ds,
+      ap (λ (a : Asked). told a given) (asks_to_insert_plainly command at ds names.named is) ∙ told_reads (asks_insert at ds true) given (inserted_reply i) reply_is
+          ∙ insert_tells at ds true i (failing true 0 (documents_of s at) ds) by.failures_are by.errors_keep,
+    )
 
 module _ (history : List Kept) (fates : List Fate) (kept : AreKept 0 fates) (calls : List Call) (pended : List ℕ) (as_fates : AreAsFates history fates calls pended) (stands : Stands calls (steps_of history)) where
   -- a call took its step by the rules
@@ -232,12 +227,13 @@ module _ (history : List Kept) (fates : List Fate) (kept : AreKept 0 fates) (cal
       }
 
   -- none of the steps of an insert is refused
-  none_refused : (supply : Supply) (c : Course) (i : ℕ) (ns : Space) (docs : List Fields) → SendsOnly (MaySend supply (insert ns docs)) c i calls → AllSentIn c i 0 (places_of c i) → HasShortNames ns → NoneRefused c i calls (steps_of history)
+  pub none_refused : (supply : Supply) (c : Course) (i : ℕ) (ns : Space) (docs : List Fields) → SendsOnly (MaySend supply (insert ns docs)) c i calls → AllSentIn c i 0 (places_of c i) → HasShortNames ns → NoneRefused c i calls (steps_of history)
   none_refused supply c i ns docs sends sent names position step own at =
       let by = call_at calls (places_of c i) position own in
       let r = step_by by.place by.call position step by.there by.position_is at in
       let p = sends.each 0 by.place by.call (sent by.place by.of) by.there in
-      is_taken (asked step.command) (told_at step) (λ refused. tells_inserted (state_of_kept r.before) (pos (suc (given_of r.before))) by.call.command step.reply ns p.piece names p.command_is r.replies (subst (λ (command : List ℕ). IsRefused (told (asked command) step.reply)) r.command_is refused))
+      let tells = insert_told (state_of_kept r.before) (pos (suc (given_of r.before))) by.call.command step.reply ns p.piece names p.command_is r.replies in
+      is_taken (asked step.command) (told_at step) (λ refused. subst IsRefused tells.2 (subst (λ (command : List ℕ). IsRefused (told (asked command) step.reply)) r.command_is refused))
 
   -- ---- the opening of a follow
 
@@ -285,9 +281,9 @@ module _ (history : List Kept) (fates : List Fate) (kept : AreKept 0 fates) (cal
       get_ends g end well takes (inl taken) = well (answered taken)
       get_ends g end well takes (inr may) = λ named some whole is turns. well (answered (takes may whole is)) named some whole is turns
 
-      ends_in : (supply : Supply) (t : Task) (r : Outcome) → SendsOnly (MaySend supply t) c i calls → OutcomeCaused awaited c i calls wire supply t r → IsPlayed t (turns_done i c.order c.notes) (pends_last i c.order c.notes) r → OutcomeEnds excuses c i calls t r → TakesValid c i calls (steps_of history) t → PutsWell excuses c i calls (steps_of history) t r → OutcomeEndsIn excuses c i calls (steps_of history) t r
+      ends_in : (supply : Supply) (t : Task) (r : Outcome) → OutcomeCaused awaited c i calls wire supply t r → IsPlayed t (turns_done i c.order c.notes) (pends_last i c.order c.notes) r → OutcomeEnds excuses c i calls t r → JobTaken c i calls (steps_of history) t → PutsWell excuses c i calls (steps_of history) t r → OutcomeEndsIn excuses c i calls (steps_of history) t r
       unfolding answers_well
-      ends_in supply (follow on count start filter batch) r sends caused played ends takes puts =
+      ends_in supply (follow on count start filter batch) r caused played ends takes puts =
           let k : ℕ = turns_done i c.order c.notes in
           let last : Bool = pends_last i c.order c.notes in
           follow_both (λ opened said token alive closed. (by : AnswersWell c i calls) → (SizePasses batch → ⊥) → suc count ≤ k → FollowWell excuses (FindsNothing c i calls by.history) count opened said.items closed)
@@ -295,36 +291,36 @@ module _ (history : List Kept) (fates : List Fate) (kept : AreKept 0 fates) (cal
           (λ opened said token alive closed. (SizePasses batch → ⊥) → suc count ≤ k → FollowEndsIn excuses (FindsNothing c i calls (steps_of history)) (NoneRefused c i calls (steps_of history)) (MayBegin c i calls (steps_of history) on start filter) count opened said.items closed)
           (λ opened said token alive closed well why small turns. record {
             opens = opens_well on count start filter batch small opened closed said.items token alive k last (λ by. well by small turns) why.0 why.1 turns;
-            goes_well = λ may. well (answered (takes small turns may)) small turns;
+            goes_well = λ may. well (answered (takes small may)) small turns;
             ends = λ taken. well (answered taken) small turns;
           }) r ends
           (follow_both (λ opened said token alive closed. FollowCaused awaited c i count calls wire on start filter batch opened said.items token alive closed) (λ opened said token alive closed. FollowPlayed opened closed count (length said.items) alive k last)
           (λ opened said token alive closed. FollowCaused awaited c i count calls wire on start filter batch opened said.items token alive closed × FollowPlayed opened closed count (length said.items) alive k last) (λ opened said token alive closed a b. (a, b)) r caused played)
-      ends_in supply (insert ns docs) r sends caused played ends takes puts =
+      ends_in supply (insert ns docs) r caused played ends takes puts =
           let k : ℕ = turns_done i c.order c.notes in
-          insert_both (λ end. (by : AnswersWell c i calls) → IsNamed ns → SendFresh by.own by.history → 1 ≤ k → EndsWell (excuses ⊥) end) (λ end. InsertEnds awaited c i calls wire ns docs end)
+          insert_both (λ end. (by : AnswersWell c i calls) → IsNamed ns → SendFresh by.own by.history → 1 ≤ k → EndsWell (excuses ⊥) end) (λ end. (by : AnswersWell c i calls) → IsNamed ns → SendFresh by.own by.history → 1 ≤ k → EndsWell (excuses ⊥) end)
           (λ end. HasShortNames ns → SendFresh (positions_at calls (places_of c i)) (steps_of history) → 1 ≤ k → EndsWell (excuses ⊥) end)
-          (λ end well why names fresh turns. well (answered (none_refused supply c i ns docs sends (subst (AllSentIn c i 0) why.whole why.sent) names)) names.named fresh turns) r ends caused
-      ends_in supply (put db bucket name id chunk pieces) r sends caused played ends takes puts =
+          (λ end well again names fresh turns. well (answered (takes names)) names.named fresh turns) r ends ends
+      ends_in supply (put db bucket name id chunk pieces) r caused played ends takes puts =
           let k : ℕ = turns_done i c.order c.notes in
           let t : PutTask = put_of db bucket name id chunk pieces in
           put_both (λ end. (by : AnswersWell c i calls) → IsValidPut t → SendFresh by.own by.history → HasFewIndexes by.own by.history t → length pieces + 2 ≤ k → EndsWell (excuses ⊥) end)
           (λ end. HasShortFiles t.at → IsValidPut t → SendFresh (positions_at calls (places_of c i)) (steps_of history) → length pieces + 2 ≤ k → EndsWell (excuses ⊥) end)
           (λ end. IsValidPut t → SendFresh (positions_at calls (places_of c i)) (steps_of history) → length pieces + 2 ≤ k → PutEndsIn (excuses ⊥) (HasShortFiles t.at) (NoneRefused c i calls (steps_of history)) (HasFewIndexes (positions_at calls (places_of c i)) (steps_of history) t) end)
           (λ end well goes valid fresh turns. record { goes_well = λ may. goes may valid fresh turns; ends = λ taken few. well (answered taken) valid fresh few turns }) r ends puts
-      ends_in supply (get db bucket id read) r sends caused played ends takes puts =
+      ends_in supply (get db bucket id read) r caused played ends takes puts =
           let g : GetTask = get_of db bucket id read in
           get_both (λ bytes end. (by : AnswersWell c i calls) → GetWell (excuses ⊥) c i calls by.history g end) (λ bytes end. (by : AnswersWell c i calls) → GetWell (excuses ⊥) c i calls by.history g end)
           (λ bytes end. NoneRefused c i calls (steps_of history) ⊎ HasShortFiles g.at → GetWell (excuses ⊥) c i calls (steps_of history) g end)
           (λ bytes end well again. get_ends g end well takes) r ends ends
 
     -- A job of a run over this store ends so in its history.
-    pub job_ends_in : IsLegal (steps_of history) → HoldsBackNone (steps_of history) → (awaited : Awaited) (wire : ℤ) (c : Course) (i : ℕ) (supply : Supply) (t : Task) (r : Outcome) → SendsOnly (MaySend supply t) c i calls → OutcomeCaused awaited c i calls wire supply t r
-        → IsPlayed t (turns_done i c.order c.notes) (pends_last i c.order c.notes) r → JobWell c i calls t r → TakesValid c i calls (steps_of history) t → PutsWell (own_excuses c i calls t) c i calls (steps_of history) t r
+    pub job_ends_in : IsLegal (steps_of history) → HoldsBackNone (steps_of history) → (awaited : Awaited) (wire : ℤ) (c : Course) (i : ℕ) (supply : Supply) (t : Task) (r : Outcome) → OutcomeCaused awaited c i calls wire supply t r
+        → IsPlayed t (turns_done i c.order c.notes) (pends_last i c.order c.notes) r → JobWell c i calls t r → JobTaken c i calls (steps_of history) t → PutsWell (own_excuses c i calls t) c i calls (steps_of history) t r
         → JobWellIn c i calls (steps_of history) t r
-    job_ends_in legal prompt awaited wire c i supply t r sends caused played well takes puts = (
-      ends_in legal prompt (own_excuses c i calls t) awaited wire c i (full_own c i calls t) supply t r sends caused played well.0 takes puts,
-      λ fit. ends_in legal prompt IsMemory awaited wire c i (λ e room. room) supply t r sends caused played (well.1 fit) takes (puts_fit c i calls (steps_of history) t r fit puts),
+    job_ends_in legal prompt awaited wire c i supply t r caused played well takes puts = (
+      ends_in legal prompt (own_excuses c i calls t) awaited wire c i (full_own c i calls t) supply t r caused played well.0 takes puts,
+      λ fit. ends_in legal prompt IsMemory awaited wire c i (λ e room. room) supply t r caused played (well.1 fit) takes (puts_fit c i calls (steps_of history) t r fit puts),
     )
 
 -- ---- the commands of a run

@@ -1,15 +1,20 @@
--- The store of a run refuses none of the commands of a follow of it that may begin, none of a get of a whole file from collections with short names, and none that ends a valid put.
-use Rattle.std.proofs.Common.{◌≡◌, ◌≤◌, ◌+◌, ℕ, suc, ℤ, List, [], ◌∷◌, length, None, Some, ap, refl}
+-- What the store of a run refuses of the commands of its jobs, and so how they end there.
+use Rattle.std.proofs.Common.{◌≡◌, ◌≤◌, ◌+◌, ◌++◌, ℕ, suc, ℤ, List, [], ◌∷◌, length, None, Some, ap, arith, refl, subst}
 use Rattle.std.specs.Prelude.{slice_get}
-use Rattle.std.specs.List.{sum_by}
+use Rattle.std.specs.List.{concat, sum_by}
+use Rattle.std.proofs.lemmas.Option.{slice_get_within}
 use Rattle.mg_bson.specs.Raw.{fields}
-use Rattle.mg_link.specs.History.{IsLegal}
+use Rattle.mg_bson.specs.Tree.{Fields}
+use Rattle.mg_link.specs.Calls.{Past}
+use Rattle.mg_link.specs.History.{IsLegal, Step}
 use Rattle.mg_link.specs.Kept.{IsByRules as AreByRules, Kept, steps_of}
 use Rattle.mg_link.specs.Link.{Awaited}
 use Rattle.mg_link.specs.Log.{Call}
+use Rattle.mg_link.specs.Namespace.{Space}
 use Rattle.mg_link.specs.Owner.{NamesItsOwn}
 use Rattle.mg_link.specs.Prompt.{HoldsBackNone}
 use Rattle.mg_link.specs.Standing.{Stands}
+use Rattle.mg_link.proofs.Places.{get_some}
 use Rattle.mg_store.specs.InMemory.{AreAsFates, AreKept}
 use Rattle.mg_store.specs.declared.fate.Fate.{Fate}
 use Rattle.mg_script.specs.Plan.{Task, follow, get, insert, put, tasks}
@@ -20,14 +25,14 @@ use Rattle.mg_script.specs.declared.outcome.Outcome.{Outcome}
 use Rattle.mg_script.specs.declared.outcome.Outcome.TheVariants as outcome
 use Rattle.mg_script.specs.declared.outcome.Turned.{Turned}
 use Rattle.mg_script.specs.declared.script.Job.{Job}
-use Rattle.mg_players.specs.Causes.{Course, FollowCaused, GetCaused, GetStands, OutcomeCaused, PutEnds, course, has_opened, places_of}
-use Rattle.mg_jobs.specs.Completing.{EndsWell, HasShortFiles, JobWell, JobWellIn, NoneRefused, SendFresh, own_excuses, positions_at}
+use Rattle.mg_players.specs.Causes.{AllSentIn, Course, FollowCaused, GetCaused, GetStands, InsertEnds, OutcomeCaused, PutEnds, commands_at, course, has_opened, places_of, sent_at}
+use Rattle.mg_jobs.specs.Completing.{EndsWell, HasShortFiles, JobTaken, JobWell, JobWellIn, NoneRefused, SendFresh, own_excuses, positions_at}
 use Rattle.mg_jobs.specs.Own.{IsHeard}
 use Rattle.mg_jobs.specs.PutLimits.{IsExcusedPut, IsValidPut}
 use Rattle.mg_players.specs.Counts.{StartedBy}
-use Rattle.mg_players.specs.Drawing.{as_sent, supply_of}
+use Rattle.mg_players.specs.Drawing.{as_sent, first_id, sent_from, supply_of}
 use Rattle.mg_players.specs.Gets.{GetTask, get_of}
-use Rattle.mg_players.specs.Kinds.{OfGet}
+use Rattle.mg_players.specs.Kinds.{OfGet, OfInsert, OfPut}
 use Rattle.mg_players.specs.Owned.{NamesNoOthers}
 use Rattle.mg_jobs.specs.Fated.{AreItsSteps}
 use Rattle.mg_players.specs.Progress.{FollowPlayed, IsPlayed, PutPlayed, pends_last, turns_done}
@@ -37,8 +42,11 @@ use Rattle.mg_jobs.proofs.FollowTaken.{follow_taken}
 use Rattle.mg_jobs.proofs.GetTaken.{get_taken}
 use Rattle.mg_jobs.proofs.Makers.{MakesCommand, sends_make}
 use Rattle.mg_jobs.proofs.Mild.{IsMildCommand}
-use Rattle.mg_jobs.proofs.PutTaken.{put_here}
-use Rattle.mg_jobs.proofs.Refusing.{PutsWell, TakesValid, job_ends_in, run_each}
+use Rattle.mg_jobs.proofs.PlacesRise.{of_rise}
+use Rattle.mg_jobs.proofs.PutFiled.{SomeSent, some_sent}
+use Rattle.mg_jobs.proofs.PutKinds.{put_kinds}
+use Rattle.mg_jobs.proofs.PutTaken.{put_here, put_taken}
+use Rattle.mg_jobs.proofs.Refusing.{PutsWell, job_ends_in, none_refused, run_each}
 use Rattle.mg_jobs.proofs.RunKillers.{always, run_kills}
 use Rattle.mg_jobs.proofs.SaidTwice.{follow_both, put_both}
 use Rattle.mg_jobs.proofs.Whose.{owned, whose}
@@ -57,6 +65,29 @@ get_stands awaited c i calls wire g (outcome.Insert end) why = absurd why
 get_stands awaited c i calls wire g (outcome.Follow opened said token alive closed) why = absurd why
 get_stands awaited c i calls wire g (outcome.Put end) why = absurd why
 
+-- ---- what an insert and a put sent
+
+insert_sent : (awaited : Awaited) (c : Course) (i : ℕ) (calls : List Call) (wire : ℤ) (ns : Space) (docs : List Fields) (r : Outcome) → OfInsert (λ end. InsertEnds awaited c i calls wire ns docs end) r → AllSentIn c i 0 (places_of c i)
+insert_sent awaited c i calls wire ns docs (outcome.Insert end) why = subst (AllSentIn c i 0) why.whole why.sent
+insert_sent awaited c i calls wire ns docs (outcome.Get bytes end) why = absurd why
+insert_sent awaited c i calls wire ns docs (outcome.Follow opened said token alive closed) why = absurd why
+insert_sent awaited c i calls wire ns docs (outcome.Put end) why = absurd why
+
+put_sent : (awaited : Awaited) (c : Course) (i : ℕ) (calls : List Call) (wire : ℤ) (supply : Supply) (t : PutTask) (r : Outcome) → OfPut (λ end. PutEnds awaited c i calls wire supply t end) r → (ever : Past) × SomeSent supply t ever (commands_at calls (places_of c i))
+put_sent awaited c i calls wire supply t (outcome.Put end) why =
+    let ever : Past = sent_at (concat why.owns ++ why.places) calls wire in
+    (ever, some_sent supply t ever (sent_at why.places calls wire) (commands_at calls (places_of c i)) end why.sends)
+put_sent awaited c i calls wire supply t (outcome.Insert end) why = absurd why
+put_sent awaited c i calls wire supply t (outcome.Get bytes end) why = absurd why
+put_sent awaited c i calls wire supply t (outcome.Follow opened said token alive closed) why = absurd why
+
+-- what is taken of a task with the ids that are drawn is taken of it as it stands in the script
+taken_unsent : (c : Course) (i : ℕ) (calls : List Call) (history : List Step) (ids : ℕ → List ℕ) (n : ℕ) (t : Task) → JobTaken c i calls history (sent_from ids n t) → JobTaken c i calls history t
+taken_unsent c i calls history ids n (insert ns docs) taken = taken
+taken_unsent c i calls history ids n (follow on count start filter batch) taken = taken
+taken_unsent c i calls history ids n (put db bucket name id chunk pieces) taken = taken
+taken_unsent c i calls history ids n (get db bucket id read) taken = taken
+
 -- ---- the jobs of a run
 
 module _ (history : List Kept) (fates : List Fate) (kept : AreKept 0 fates) (calls : List Call) (pended : List ℕ) (as_fates : AreAsFates history fates calls pended) (stands : Stands calls (steps_of history)) (alone : AreItsSteps history calls)
@@ -68,28 +99,37 @@ module _ (history : List Kept) (fates : List Fate) (kept : AreKept 0 fates) (cal
   abbrev turns : Course
   turns = course [] order notes
 
-  takes : (i : ℕ) (supply-i : Supply) (t : Task) (r : Outcome) → SendsOnly (MaySend supply-i t) turns i calls → OutcomeCaused awaited turns i calls wire supply-i t r → IsPlayed t (turns_done i order notes) (pends_last i order notes) r → TakesValid turns i calls (steps_of history) t
-  takes i supply-i (follow on count start filter batch) r its why plays = λ small enough may.
-      let k : ℕ = turns_done i order notes in
+  takes : (i : ℕ) (supply-i : Supply) (t : Task) (r : Outcome) → SendsOnly (MaySend supply-i t) turns i calls → OutcomeCaused awaited turns i calls wire supply-i t r → IsPlayed t (turns_done i order notes) (pends_last i order notes) r → JobTaken turns i calls (steps_of history) t
+  takes i supply-i (follow on count start filter batch) r its why plays = λ small may.
       always (NoneRefused turns i calls (steps_of history)) r
-      (follow_both (λ opened said token alive closed. FollowCaused awaited turns i count calls wire on start filter batch opened said.items token alive closed) (λ opened said token alive closed. FollowPlayed opened closed count (length said.items) alive k (pends_last i order notes))
+      (follow_both (λ opened said token alive closed. FollowCaused awaited turns i count calls wire on start filter batch opened said.items token alive closed) (λ opened said token alive closed. FollowPlayed opened closed count (length said.items) alive (turns_done i order notes) (pends_last i order notes))
       (λ opened said token alive closed. NoneRefused turns i calls (steps_of history))
       (λ opened said token alive closed by comes.
       follow_taken history fates kept calls pended as_fates stands alone ruled mild legal prompt turns i on start filter batch small may own its
       (λ place call x there kills. run_kills (steps_of history) calls legal stands awaited wire supply ts order notes rs named abreast counted started sends caused played i place call x there kills)
-      awaited count wire opened closed said.items token alive k (pends_last i order notes) by comes enough) r why plays)
-  takes i supply-i (insert ns docs) r its why plays = tt
-  takes i supply-i (put db bucket name id chunk pieces) r its why plays = tt
+      awaited count wire opened closed said.items token alive by comes) r why plays)
+  takes i supply-i (insert ns docs) r its why plays = λ short. none_refused history fates kept calls pended as_fates stands supply-i turns i ns docs its (insert_sent awaited turns i calls wire ns docs r why) short
+  takes i supply-i (put db bucket name id chunk pieces) r its why plays = λ may.
+      let t : PutTask = put_of db bucket name id chunk pieces in
+      let s = put_sent awaited turns i calls wire supply-i t r why in
+      put_taken history fates kept calls pended as_fates stands alone ruled mild legal prompt (run_each MakesCommand sends_make history calls alone stands supply ts order notes named abreast started sends) own t may turns i
+      (put_kinds calls t s.0 supply-i turns.begun (places_of turns i) (commands_at calls (places_of turns i)) s.1.upto s.1.moment s.1.removed (of_rise turns i) refl s.1.sends) (names i)
   takes i supply-i (get db bucket id read) r its why plays = λ may bytes whole.
       let g : GetTask = get_of db bucket id read in
       let s = get_stands awaited turns i calls wire g r why in
       get_taken history fates kept calls pended as_fates stands alone ruled mild legal prompt turns i g wire s.0 s.1 (owned calls order notes abreast started i) (whose calls order notes abreast started) names its may bytes whole
 
-  -- So it is for each follow of the run.
-  run_takes : (i : ℕ) (t : Task) (r : Outcome) → slice_get ts i ≡ Some t → slice_get rs i ≡ Some r → TakesValid turns i calls (steps_of history) (as_sent supply.ids ts order i t)
-  run_takes i t r ht hr = takes i (supply_of supply ts order i) (as_sent supply.ids ts order i t) r (sends i t ht) (caused i t r ht hr) (played i t r ht hr)
+  takes_sent : (i : ℕ) (t : Task) (r : Outcome) → slice_get ts i ≡ Some t → slice_get rs i ≡ Some r → JobTaken turns i calls (steps_of history) (as_sent supply.ids ts order i t)
+  takes_sent i t r ht hr = takes i (supply_of supply ts order i) (as_sent supply.ids ts order i t) r (sends i t ht) (caused i t r ht hr) (played i t r ht hr)
 
-  -- So it is for each valid put.
+  -- What it refuses of no job of the run.
+  pub run_takes : (i : ℕ) (t : Task) → slice_get ts i ≡ Some t → JobTaken turns i calls (steps_of history) t
+  run_takes i t ht =
+      let within = slice_get_within ts i t ht in
+      let r = get_some rs i (omega (arith, within, counted)) in
+      taken_unsent turns i calls (steps_of history) supply.ids (first_id ts order i) t (takes_sent i t r.0 ht r.1)
+
+  -- A valid put ends well.
   puts : (i : ℕ) (supply-i : Supply) (t : Task) (r : Outcome) → OutcomeCaused awaited turns i calls wire supply-i t r → IsPlayed t (turns_done i order notes) (pends_last i order notes) r → PutsWell (own_excuses turns i calls t) turns i calls (steps_of history) t r
   puts i supply-i (follow on count start filter batch) r why plays = tt
   puts i supply-i (insert ns docs) r why plays = tt
@@ -106,7 +146,7 @@ module _ (history : List Kept) (fates : List Fate) (kept : AreKept 0 fates) (cal
   -- and each job ends so in its history that ends well over a prompt link
   pub run_ends_in : (i : ℕ) (t : Task) (r : Outcome) → slice_get ts i ≡ Some t → slice_get rs i ≡ Some r → JobWell turns i calls (as_sent supply.ids ts order i t) r → JobWellIn turns i calls (steps_of history) (as_sent supply.ids ts order i t) r
   run_ends_in i t r ht hr well =
-      job_ends_in history fates kept calls pended as_fates stands ruled mild legal prompt awaited wire turns i (supply_of supply ts order i) (as_sent supply.ids ts order i t) r (sends i t ht) (caused i t r ht hr) (played i t r ht hr) well (run_takes i t r ht hr) (puts i (supply_of supply ts order i) (as_sent supply.ids ts order i t) r (caused i t r ht hr) (played i t r ht hr))
+      job_ends_in history fates kept calls pended as_fates stands ruled mild legal prompt awaited wire turns i (supply_of supply ts order i) (as_sent supply.ids ts order i t) r (caused i t r ht hr) (played i t r ht hr) well (takes_sent i t r ht hr) (puts i (supply_of supply ts order i) (as_sent supply.ids ts order i t) r (caused i t r ht hr) (played i t r ht hr))
 
 -- there is one task for each job
 pub tasks_counted : (jobs : List Job) → length (tasks jobs) ≡ length jobs

@@ -14,7 +14,7 @@ use Rattle.mg_link.specs.Places.{out_at, polls_in}
 use Rattle.mg_link.specs.Standing.{Stands}
 use Rattle.mg_players.specs.Blaming.{GetsBehind}
 use Rattle.mg_players.specs.Causes.{AllPollOwn, AllWaitAlone, OutcomeCaused, course}
-use Rattle.mg_jobs.specs.Completing.{AnswersWellIn, JobWell, JobWellIn, NoneRefused}
+use Rattle.mg_jobs.specs.Completing.{AnswersWellIn, JobTaken, JobWell, JobWellIn, NoneRefused}
 use Rattle.mg_players.specs.Counts.{AreNoted, turns_pended}
 use Rattle.mg_jobs.specs.Fated.{AreItsSteps}
 use Rattle.mg_players.specs.Owned.{NamesNoOthers}
@@ -97,7 +97,8 @@ script_supply script = supplied (script_ids script) script.moment.millis
 -- fate keeps its command, each job ends as its kind promises whose steps were answered at once; and so were, in the history of the run's own
 -- store, the steps of each job of which it refused none, but the creation of a collection that is there.
 -- There each insert of fresh documents ends well, each follow that may begin is opened and ends well, and so ends each valid put of fresh documents, and each get of a
--- file that is whole, whose collections have short names, whatever else the run's store did. No job names a cursor that another one opened.
+-- file that is whole, whose collections have short names, whatever else the run's store did: it refused no step of such an insert, such a follow and such a get, but the
+-- creation of a collection that is there, and none of such a put but a getMore of a namespace that no server takes. No job names a cursor that another one opened.
 pub record RunFollowed (run : Run) : Type 0 where
   pub calls : List Call
   pub log_is : run.logs.items ≡ calls ∷ []
@@ -133,6 +134,7 @@ pub record RunFollowed (run : Run) : Type 0 where
       → JobWell (course [] run.script.order.items turns.items) i calls (as_sent (script_ids run.script) (tasks run.script.jobs.items) run.script.order.items i t) r
   pub well_here : AreKept 0 fates → (i : ℕ) (t : Task) (r : Outcome) → slice_get (tasks run.script.jobs.items) i ≡ Some t → slice_get run.outcomes.items i ≡ Some r
       → JobWellIn (course [] run.script.order.items turns.items) i calls (steps_of run.store.history) (as_sent (script_ids run.script) (tasks run.script.jobs.items) run.script.order.items i t) r
+  pub taken : AreKept 0 fates → (i : ℕ) (t : Task) → slice_get (tasks run.script.jobs.items) i ≡ Some t → JobTaken (course [] run.script.order.items turns.items) i calls (steps_of run.store.history) t
 
 -- the run is of the script that was read, over one link
 pub record Ran (old new : Option (List ℕ)) (run : Run) : Type 0 where

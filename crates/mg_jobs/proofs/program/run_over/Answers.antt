@@ -37,7 +37,7 @@ use Rattle.mg_players.proofs.Drawing.{played_as_sent, sent_same}
 use Rattle.mg_jobs.proofs.Created.{creations_meet}
 use Rattle.mg_jobs.proofs.Positions.{answered_well}
 use Rattle.mg_jobs.proofs.Refusing.{run_mildly}
-use Rattle.mg_jobs.proofs.RunTaken.{run_ends_in, tasks_counted}
+use Rattle.mg_jobs.proofs.RunTaken.{run_ends_in, run_takes, tasks_counted}
 use Rattle.mg_jobs.proofs.Tallies.{noted_rose, turns_counted}
 use Rattle.mg_jobs.proofs.program.run_over.Goals as goal
 
@@ -179,4 +179,7 @@ returns-clause-followed g c =
       well_here = λ kept i t r ht hr.
           run_ends_in history fates kept f.0 link.pended as_fates_is stands alone_is rules (run_mildly history f.0 alone_is stands (script_supply script) (tasks script.jobs.items) script.order.items notes c.requires.jobs notes_is started sends_is) legal holds own_is (out_at f.0) script.wire
           (script_supply script) (tasks script.jobs.items) script.order.items notes c.in_ok-played.played.outcomes.items c.requires.jobs notes_is outcomes_is started sends_is names_is caused_is played_is i t r ht hr (well_is kept i t r ht hr);
+      taken = λ kept i t ht.
+          run_takes history fates kept f.0 link.pended as_fates_is stands alone_is rules (run_mildly history f.0 alone_is stands (script_supply script) (tasks script.jobs.items) script.order.items notes c.requires.jobs notes_is started sends_is) legal holds own_is (out_at f.0) script.wire
+          (script_supply script) (tasks script.jobs.items) script.order.items notes c.in_ok-played.played.outcomes.items c.requires.jobs notes_is outcomes_is started sends_is names_is caused_is played_is i t ht;
     }
