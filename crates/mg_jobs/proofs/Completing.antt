@@ -1,5 +1,5 @@
 -- How jobs end over a link that loses nothing, where their server holds nothing back.
-use Rattle.std.proofs.Common.{◌≡◌, ◌≢◌, ◌⊎◌, ◌≤◌, ◌+◌, ◌++◌, ℕ, suc, ℤ, pos, Bool, true, false, List, [], ◌∷◌, length, take, Contains, Option, Some, None, refl, sym, ap, ◌∙◌, subst, inl, inr, arith}
+use Rattle.std.proofs.Common.{◌≡◌, ◌≢◌, ◌⊎◌, ◌≤◌, ◌<◌, ◌+◌, ◌++◌, ℕ, suc, ℤ, pos, Bool, true, false, List, [], ◌∷◌, length, take, Contains, Option, Some, None, refl, sym, ap, ◌∙◌, subst, inl, inr, arith}
 use Rattle.std.specs.Prelude.{IfOk, Result, Ok, Err, slice_get, unwrap_or, if◌then◌else◌}
 use Rattle.std.specs.List.{concat}
 use Rattle.std.specs.Ordering.{int_eq}
@@ -61,7 +61,7 @@ use Rattle.mg_players.specs.Drawing.{as_sent, supply_of}
 use Rattle.mg_players.specs.Follows.{IsArgsFor, poll_of}
 use Rattle.mg_players.specs.Gets.{GetTask, IsGetCommand, get_of}
 use Rattle.mg_players.specs.Headline.{AllFiled, GetGave, OutcomeFiled}
-use Rattle.mg_jobs.specs.Own.{IsHeard, IsOwnCommand, IsOwnCursor, asks, kills, opens, resumes}
+use Rattle.mg_jobs.specs.Own.{IsHeard, IsHeardBefore, IsOwnCommand, IsOwnCursor, asks, kills, opens, resumes}
 use Rattle.mg_ops.specs.InsertCauses.{InsertFails, IsPiece, ListsFor, cannot_encode, cannot_insert, command_fails, no_memory}
 use Rattle.mg_script.specs.Plan.{Begin, Task, follow, get, insert, put}
 use Rattle.mg_players.specs.Progress.{AllPlayed, FollowPlayed, GetPlayed, InsertPlayed, IsPlayed, OpenPlayed, PutPlayed, pends_last, turns_done}
@@ -80,6 +80,7 @@ use Rattle.mg_players.proofs.Batches.{breaks_not, events_are, tells_not}
 use Rattle.mg_jobs.proofs.GetWell.{get_well}
 use Rattle.mg_jobs.proofs.InsertWell.{never_lists}
 use Rattle.mg_jobs.proofs.Own.{HasOwn, StandsOwn, called_own, opened_own}
+use Rattle.mg_jobs.proofs.OwnFurther.{stands_further}
 use Rattle.mg_jobs.proofs.PutHeard.{OwnStep}
 use Rattle.mg_jobs.proofs.PutWell.{put_well}
 use Rattle.mg_jobs.proofs.SaidTwice.{follow_both, get_both, insert_both, put_both}
@@ -132,8 +133,11 @@ module _ (c : Course) (i k : ℕ) (begun calls : List Call) (wire : ℤ) (places
       let within = get_within begun h.place h.heard.call (faultless h.place h.heard.call h.heard.there h.heard.has_seen) in
       omega arith
 
-  hears : (command : Fields) (bytes : List ℕ) → HeardBy (sent_at places calls wire) command (reply bytes) → IsHeard c i calls bytes
+  abbrev hears : (command : Fields) (bytes : List ℕ) → HeardBy (sent_at places calls wire) command (reply bytes) → IsHeard c i calls bytes
   hears command bytes h = record { done = k; place = h.place; sent = own_place h.place command (reply bytes) h.heard; call = h.heard.call; there = h.heard.there; has_seen = h.heard.has_seen }
+
+  hears_now : (command : Fields) (bytes : List ℕ) → HeardBy (sent_at places calls wire) command (reply bytes) → IsHeardBefore c i calls (suc k) bytes
+  hears_now command bytes h = let now : k < suc k = omega arith in (hears command bytes h, now)
 
   taken : (command : Fields) (bytes : List ℕ) (h : HeardBy (sent_at places calls wire) command (reply bytes)) → Taken well.own well.history command bytes h.heard.call
   taken command bytes h =
@@ -213,7 +217,6 @@ settled_quits s settled owing = let bad : streams.follows ≡ streams.owes = sym
 -- a call ended well
 record EndedWell (watched : ℤ → Type 0) (are_its : WatchArgs → Type 0) (heard : List ℕ → Type 0) (short nothing : Type 0) (after : ClientStream) (answer : Answer) : Type 0 where
   stands : StandsWell watched are_its after
-  own : StandsOwn heard after
   owes : after.doing ≡ streams.owes → short ⊎ IsShort answer
   looked : (bytes : List ℕ) → HoldsFirst after bytes → ⊥
   is_well : AnswerWell (IsExcused are_its heard short) nothing answer
@@ -291,14 +294,12 @@ module _ (watched : ℤ → Type 0) (are_its : WatchArgs → Type 0) (fits : (ar
     called_well : (answer : Answer) (after : ClientStream) → Called past None at after (poll_of answer) → EndedWell watched are_its heard short nothing after answer
     called_well (answers.Event event) after called = record {
       stands = gave_well watched are_its past served.honest at well after event called;
-      own = stands_own (answers.Event event) after called;
       owes = λ owing. settled_quits after called.settled owing;
       looked = settled_first after called.settled;
       is_well = tt;
     }
     called_well answers.Nothing after called = record {
       stands = empty_well watched are_its past served.honest at well after called.0 called.1;
-      own = stands_own answers.Nothing after called;
       owes = λ owing. settled_quits after called.1.settled owing;
       looked = settled_first after called.1.settled;
       is_well = none_by after called.0 called.1.why;
@@ -307,7 +308,6 @@ module _ (watched : ℤ → Type 0) (are_its : WatchArgs → Type 0) (fits : (ar
         let fails = fails_well after e called.why in
         record {
           stands = failed_well watched are_its past served.honest at well after e called;
-          own = stands_own (answers.Failed e) after called;
           owes = fails.1;
           looked = (failed_so watched are_its past served.honest at well after e called.why).0;
           is_well = fails.0;
@@ -355,25 +355,36 @@ kill_well watched are_its heard past last e served own f = kill_by watched are_i
 
 -- ---- all calls
 
+-- what was heard before a call was heard before the next one
+heard_still : (c : Course) (i : ℕ) (calls : List Call) (n : ℕ) (bytes : List ℕ) → IsHeardBefore c i calls n bytes → IsHeardBefore c i calls (suc n) bytes
+heard_still c i calls n bytes h = let less = h.1 in (h.0, omega arith)
+
+-- so it was heard at some time
+own_ever : (c : Course) (i : ℕ) (calls : List Call) (n : ℕ) (at : ClientStream) → StandsOwn (IsHeardBefore c i calls n) at → StandsOwn (IsHeard c i calls) at
+own_ever c i calls n at own = stands_further (IsHeardBefore c i calls n) (IsHeard c i calls) (λ bytes h. h.0) at own
+
 module _ (c : Course) (i : ℕ) (begun calls : List Call) (wire : ℤ) (whole : length begun ≡ c.begun) (faultless : Faultless begun calls) (well : AnswersWell c i calls) (are_its : WatchArgs → Type 0) (fits : (args : WatchArgs) → are_its args → SizePasses args.options.batch_size → ⊥) where
-  one_well : (short : Type 0) (at after : ClientStream) (n : ℕ) (places : List ℕ) (answer : Answer) → AllSentIn c i n places → Called (sent_at places calls wire) None at after (poll_of answer) → StandsWell (IsWatched well.history) are_its at → StandsOwn (IsHeard c i calls) at → (at.doing ≡ streams.owes → short)
-      → ((bytes : List ℕ) → HoldsFirst at bytes → n ≡ 1) → EndedWell (IsWatched well.history) are_its (IsHeard c i calls) short (FindsNothing c i calls well.history n short) after answer
-  one_well short at after n places answer sent called stands own owed first =
-      called_well (IsWatched well.history) are_its fits (IsHeard c i calls) short (sent_at places calls wire) (serves c i n begun calls wire places whole faultless well sent) (hears c i n begun calls wire places whole faultless well sent) at stands own owed (FindsNothing c i calls well.history n short)
+  one_well : (short : Type 0) (at after : ClientStream) (n : ℕ) (places : List ℕ) (answer : Answer) → AllSentIn c i n places → Called (sent_at places calls wire) None at after (poll_of answer) → StandsWell (IsWatched well.history) are_its at → StandsOwn (IsHeardBefore c i calls n) at → (at.doing ≡ streams.owes → short)
+      → ((bytes : List ℕ) → HoldsFirst at bytes → n ≡ 1) → StandsOwn (IsHeardBefore c i calls (suc n)) after × EndedWell (IsWatched well.history) are_its (IsHeard c i calls) short (FindsNothing c i calls well.history n short) after answer
+  one_well short at after n places answer sent called stands own owed first = (
+      stands_own (IsWatched well.history) are_its fits (IsHeardBefore c i calls (suc n)) short (sent_at places calls wire) (serves c i n begun calls wire places whole faultless well sent) (hears_now c i n begun calls wire places whole faultless well sent) at stands
+      (stands_further (IsHeardBefore c i calls n) (IsHeardBefore c i calls (suc n)) (heard_still c i calls n) at own) owed answer after called,
+      called_well (IsWatched well.history) are_its fits (IsHeard c i calls) short (sent_at places calls wire) (serves c i n begun calls wire places whole faultless well sent) (hears c i n begun calls wire places whole faultless well sent) at stands (own_ever c i calls n at own) owed (FindsNothing c i calls well.history n short)
       (λ bytes held. takes_first (first bytes held))
       (λ bytes is h. takes_again is h.heard.place (own_place c i n begun calls wire places whole faultless well sent h.heard.place (resuming_in at.aggregate wire h.session) (reply bytes) h.heard.heard) h.heard.heard.call h.heard.heard.there at.aggregate wire
       (subst (λ (x : Option Session). fields h.heard.heard.call.command ≡ resuming_in at.aggregate wire x) h.plainly h.heard.heard.command_is))
-      (λ gone. is_over at.cursor.space (subst (λ (id : ℤ). IsOwnCursor (IsHeard c i calls) id at.cursor.space) gone own.cursor.own))
-      (λ bytes batch h there empty. finds_none (none_there c i n begun calls wire places whole faultless well sent at.cursor.id at.cursor.space at.cursor.manner h.session bytes batch stands.cursor.named stands.cursor.watches h.heard h.success there empty)) answer after called
+      (λ gone. is_over at.cursor.space (subst (λ (id : ℤ). IsOwnCursor (IsHeardBefore c i calls n) id at.cursor.space) gone own.cursor.own))
+      (λ bytes batch h there empty. finds_none (none_there c i n begun calls wire places whole faultless well sent at.cursor.id at.cursor.space at.cursor.manner h.session bytes batch stands.cursor.named stands.cursor.watches h.heard h.success there empty)) answer after called,
+  )
 
-  calls_well : (short : Type 0) (n : ℕ) (at : ClientStream) (owns : List (List ℕ)) (said : List Answer) (last : ClientStream) → ((k : ℕ) (own : List ℕ) → slice_get owns k ≡ Some own → AllSentIn c i (n + k) own) → Answered calls wire at owns said last → StandsWell (IsWatched well.history) are_its at → StandsOwn (IsHeard c i calls) at → (at.doing ≡ streams.owes → short)
+  calls_well : (short : Type 0) (n : ℕ) (at : ClientStream) (owns : List (List ℕ)) (said : List Answer) (last : ClientStream) → ((k : ℕ) (own : List ℕ) → slice_get owns k ≡ Some own → AllSentIn c i (n + k) own) → Answered calls wire at owns said last → StandsWell (IsWatched well.history) are_its at → StandsOwn (IsHeardBefore c i calls n) at → (at.doing ≡ streams.owes → short)
       → ((bytes : List ℕ) → HoldsFirst at bytes → n ≡ 1) → StandsOwn (IsHeard c i calls) last × AnswersAreWell (IsExcused are_its (IsHeard c i calls)) (FindsNothing c i calls well.history) n short said
-  calls_well short n at [] [] last sent is stands own owed first = (subst (StandsOwn (IsHeard c i calls)) (sym is) own, tt)
+  calls_well short n at [] [] last sent is stands own owed first = (subst (StandsOwn (IsHeard c i calls)) (sym is) (own_ever c i calls n at own), tt)
   calls_well short n at (places ∷ owns) (answer ∷ said) last sent answered stands own owed first =
       let now : n + 0 ≡ n = omega arith in
       let one = one_well short at answered.0 n places answer (subst (λ (m : ℕ). AllSentIn c i m places) now (sent 0 places refl)) answered.1 stands own owed first in
-      let more = calls_well (short ⊎ IsShort answer) (suc n) answered.0 owns said last (λ k own there. let next : n + suc k ≡ suc n + k = omega arith in subst (λ (m : ℕ). AllSentIn c i m own) next (sent (suc k) own there)) answered.2 one.stands one.own one.owes (λ bytes held. absurd (one.looked bytes held)) in
-      (more.0, (one.is_well, more.1))
+      let more = calls_well (short ⊎ IsShort answer) (suc n) answered.0 owns said last (λ k own there. let next : n + suc k ≡ suc n + k = omega arith in subst (λ (m : ℕ). AllSentIn c i m own) next (sent (suc k) own there)) answered.2 one.1.stands one.0 one.1.owes (λ bytes held. absurd (one.1.looked bytes held)) in
+      (more.0, (one.1.is_well, more.1))
   calls_well short n at [] (answer ∷ said) last sent answered stands own owed first = absurd answered
   calls_well short n at (places ∷ owns) [] last sent answered stands own owed first = absurd answered
 
@@ -406,7 +417,7 @@ module _ (awaited : Awaited) (c : Course) (i : ℕ) (begun calls : List Call) (w
       let fits = size_fits on start filter batch small in
       let a = o.answers in
       let stands = opened_well (IsWatched well.history) (IsArgsFor on start filter batch) (sent_at a.places calls wire) (honest_over well.history calls well.legal well.stands a.places wire) o.args o.args_are a.first a.opened in
-      let own = opened_own (IsHeard c i calls) (sent_at a.places calls wire) (hears c i 0 begun calls wire a.places whole faultless well a.sent) o.args a.first a.opened in
+      let own = opened_own (IsHeardBefore c i calls 1) (sent_at a.places calls wire) (hears_now c i 0 begun calls wire a.places whole faultless well a.sent) o.args a.first a.opened in
       let all = calls_well c i begun calls wire whole faultless well (IsArgsFor on start filter batch) fits ⊥ 1 a.first a.owns said o.last (λ k own there. let next : suc k ≡ 1 + k = omega arith in subst (λ (m : ℕ). AllSentIn c i m own) next (a.sent_each k own there)) a.answered stands own (λ owing. let bad : streams.follows ≡ streams.owes = sym (ap (λ (s : ClientStream). s.doing) a.opened.stream_is) ∙ owing in cc) (λ bytes held. refl) in
       let end = closed_well awaited c i begun calls wire whole faultless well (IsArgsFor on start filter batch) closed count (length said) k pended o.last o.now all.0 played turns o.close in
       record { all = end.0; answered = all.1; closes = end.1 }

@@ -35,7 +35,7 @@ use Rattle.mg_players.specs.Kinds.{OfFollow, OfGet, OfInsert, OfPut}
 use Rattle.mg_players.specs.Gets.{GetTask, IsGetCommand, chunks_find, get_of, more_chunks, no_manner, record_find}
 use Rattle.mg_players.specs.Headline.{GetGave}
 use Rattle.mg_ops.specs.InsertCauses.{IsPiece}
-use Rattle.mg_jobs.specs.Own.{IsHeard, IsOwnCommand, IsOwnCursor}
+use Rattle.mg_jobs.specs.Own.{IsHeard, IsHeardBefore, IsOwnCommand, IsOwnCursor}
 use Rattle.mg_jobs.specs.PutLimits.{CannotPut, HasFewIndexes, IsExcusedPut, IsValidPut}
 use Rattle.mg_players.specs.Puts.{put_of}
 use Rattle.mg_script.specs.Plan.{Begin, Task, insert, follow, put, get}
@@ -170,8 +170,8 @@ pub data FindsNothing (c : Course) (i : ℕ) (calls : List Call) (history : List
   takes_first : k ≡ 1 → FindsNothing c i calls history k short
   -- or that of a resumption, which it sent
   takes_again : short → (place : ℕ) → SentIn c i k place → (call : Call) → slice_get calls place ≡ Some call → (a : ChangeStreamAggregate) (wire : ℤ) → fields call.command ≡ resuming_in a wire None → FindsNothing c i calls history k short
-  -- the stream has ended, as a reply told
-  is_over : (at : Space) → IsOwnCursor (IsHeard c i calls) (pos 0) at → FindsNothing c i calls history k short
+  -- the stream has ended, as a reply told that it heard before this call
+  is_over : (at : Space) → IsOwnCursor (IsHeardBefore c i calls k) (pos 0) at → FindsNothing c i calls history k short
   finds_none : NoneLeft c i calls history k → FindsNothing c i calls history k short
 
 -- why calls may answer so, by their number, and whether they are short

@@ -1,5 +1,5 @@
 -- The commands that a follow must send, by the replies that it heard.
-use Rattle.std.specs.Prelude.{◌≡◌, ℕ, ℤ, List, [], ◌∷◌, Some, None, Ok, slice_get}
+use Rattle.std.specs.Prelude.{◌≡◌, ◌<◌, ℕ, ℤ, List, [], ◌∷◌, Some, None, Ok, slice_get}
 use Rattle.mg_bson.specs.Tree.{Tree, Fields}
 use Rattle.mg_bson.specs.Raw.{fields}
 use Rattle.mg_link.specs.Log.{Call, reply}
@@ -25,6 +25,10 @@ pub record IsHeard (c : Course) (i : ℕ) (calls : List Call) (bytes : List ℕ)
   pub call : Call
   pub there : slice_get calls place ≡ Some call
   pub has_seen : call.seen ≡ reply bytes
+
+-- it heard this reply in its opening, number 0, or in one of its calls before that of this number
+abbrev pub IsHeardBefore : Course → ℕ → List Call → ℕ → List ℕ → Type 0
+IsHeardBefore c i calls k bytes = (heard : IsHeard c i calls bytes) × (heard.done < k)
 
 -- a reply told this cursor
 pub record IsOwnCursor (heard : List ℕ → Type 0) (id : ℤ) (at : Space) : Type 0 where
