@@ -6,8 +6,8 @@ use Rattle.std.proofs.lemmas.List.{take_all}
 use Rattle.mg_bson.specs.Find.{get}
 use Rattle.mg_bson.specs.Raw.{fields}
 use Rattle.mg_bson.specs.Tree.{Fields, Tree}
-use Rattle.mg_link.specs.Commands.{Asked, as_integer, asked, asked_by, asks_more, asks_other, more_of, space_at}
-use Rattle.mg_link.specs.Files.{AreChunks, Bucket, File, IsWhole, LeavesFile, chunked, file_of}
+use Rattle.mg_link.specs.Commands.{Asked, as_integer, asked, asked_by, asks_more, asks_other, asks_query, more_of, space_at}
+use Rattle.mg_link.specs.Files.{AreChunks, Bucket, File, IsWhole, LeavesFile, chunked, chunks_space, file_of}
 use Rattle.mg_link.specs.Calls.{Past}
 use Rattle.mg_link.specs.Filing as filing
 use Rattle.mg_link.specs.Filing.{IsOwnStep, KnowsFile, Leaves, cleared}
@@ -26,19 +26,20 @@ use Rattle.mg_link.proofs.Places.{get_within}
 use Rattle.mg_gridfs.specs.Storing.{HasStored}
 use Rattle.mg_gridfs.specs.Uploads.{fresh_upload}
 use Rattle.mg_gridfs.proofs.Holding.{stored_is_whole}
-use Rattle.mg_gridfs.specs.Downloaded.{KnowsBy, KnowsDownload}
+use Rattle.mg_gridfs.specs.Downloaded.{KnowsBy, KnowsDownload, chunks_query}
 use Rattle.mg_gridfs.specs.DownloadLaws.{IsBetween}
 use Rattle.mg_gridfs.specs.Downloads as downloads
 use Rattle.mg_gridfs.specs.Downloads.{ClientDownload, Doing}
 use Rattle.mg_gridfs.specs.DownloadView.{download_of}
 use Rattle.mg_gridfs.proofs.Meaning.{IsReading, find_reads, leaves_by, read_leaves}
-use Rattle.mg_gridfs.proofs.ReadBack.{download_reads, download_reads_until, stays_at}
+use Rattle.mg_gridfs.proofs.ReadBack.{download_reads_until, stays_at}
 use Rattle.mg_records.specs.FileRecords.{FileRecord, file_record_of}
 use Rattle.mg_players.specs.Causes.{AllSentIn, Course, SentIn, places_of, sent_at}
-use Rattle.mg_players.specs.Files.{FindsBroken, HasReadOther, IsFirstStepOf, IsLastStepOf, IsStepOf, LeftNoChunk, LeftWhole, NeverWhole, OthersLeave, OthersLeaveFrom, no_record, not_counted, other_chunks}
+use Rattle.mg_players.specs.Files.{AllHold, AsksAt, FindsBroken, FirstHold, FoundFirst, HasReadOther, IsFirstStepOf, IsLastStepOf, IsStepOf, LeftNoChunk, LeftWhole, NeverWhole, OthersLeave, OthersLeaveFrom, ReadsFile, no_record, not_counted, other_chunks}
 use Rattle.mg_players.specs.Gets.{GetKnowsAt, GetTask, IsGetCommand, chunks_find, for_chunks, for_more, for_record, get_end, more_chunks, record_find, sought}
 use Rattle.mg_players.specs.Headline.{GaveFront, GetGave, GetPlays}
 use Rattle.mg_players.specs.Plays.{Places}
+use Rattle.mg_players.specs.Reading.{EndsAsListed}
 use Rattle.mg_players.specs.Puts.{PutTask, joined, put_aim}
 use Rattle.mg_players.specs.Sends.{SendsOnly}
 use Rattle.mg_players.specs.Telling.{AllSent, GetTells, TellsGetOpened}
@@ -49,6 +50,7 @@ use Rattle.mg_script.specs.declared.outcome.Ended.TheVariants as ended
 use Rattle.mg_players.proofs.GetBlamed.{Blamed, FoundAt, OwnAt, blamed, found_at}
 use Rattle.mg_players.proofs.GetBroken.{Broke, broke, count_broke, record_broke}
 use Rattle.mg_players.proofs.GetDiffering.{whole_never}
+use Rattle.mg_players.proofs.GetEnding.{ListsSo, ended_lists, front_lists}
 use Rattle.mg_jobs.proofs.FindFirst.{find_first}
 use Rattle.mg_jobs.proofs.PlacesRise.{Rise, of_rise, rise_first}
 use Rattle.mg_jobs.proofs.Positions.{sent_place}
@@ -229,38 +231,72 @@ its_own c i k calls wire places sent position x =
     ] in
     record { done = k; place = x.place; sent = own; call = x.call; there = x.there; placed = x.placed }
 
-module _ (c : Course) (i n : ℕ) (calls : List Call) (wire : ℤ) (g : GetTask) (q : Places) (sent : AllSent c i q n) (e : Error) (b : Blamed calls wire q g e) where
+-- the find of the record, and the list of the chunks behind it
+module _ (c : Course) (i n : ℕ) (calls : List Call) (wire : ℤ) (g : GetTask) (q : Places) (sent : AllSent c i q n) (f : FileRecord) (at : Option ℕ) (opened : TellsGetOpened calls wire q g f at) where
   abbrev its_past : Past
   its_past = sent_at q.opened calls wire
 
   -- the record that it found, in a history
-  its_record : (history : List Step) → IsLegal history → Stands calls history → FoundAt its_past history g b.file
-  its_record history legal stands = found_at its_past history legal stands g b.other.named b.file b.opened.heard
+  its_record : (history : List Step) → IsLegal history → Stands calls history → FoundAt its_past history g f
+  its_record history legal stands = found_at its_past history legal stands g opened.named f opened.heard
 
-  found_own : (history : List Step) (x : FoundAt its_past history g b.file) → IsStepOf c i calls x.position
+  found_own : (history : List Step) (x : FoundAt its_past history g f) → IsStepOf c i calls x.position
   found_own history x = its_own c i 0 calls wire q.opened sent.opened x.position x.step
 
-  -- that before it listed the chunks
-  found_before : (history : List Step) → Stands calls history → (x : FoundAt its_past history g b.file) (position : ℕ) → b.other.call.position ≡ Some position → x.position < position
-  found_before history stands x position placed =
-      let s = stands.same x.step.place x.step.call x.position x.step.there x.step.placed in
-      let same : s.0 ≡ x.finds.step = same_some s.0 x.finds.step (sym s.1 ∙ x.finds.there) in
-      let own : IsOf q.opened x.step.place = elim x.step.own [
-        | inl of ↦ of
-        | inr late ↦ let within = get_within calls x.step.place x.step.call x.step.there in absurd (omega (arith, late, within))
-      ] in
-      let rise = rise_first q.opened (concat q.owns ++ q.now) c.begun (subst (Rise c.begun) (sym sent.whole) (of_rise c i)) in
-      let first = find_first g b.file calls b.other.named c.begun 5 q.opened rise b.opened.finds.falling x.step.place b.listed x.step.call b.other.call own b.own x.step.there b.other.there
-      (ap asked (sym s.2 ∙ ap (λ (y : Step). y.command) same) ∙ x.finds.asks) b.other.asks in
-      stands.rising x.step.place b.listed x.step.call b.other.call x.position position first x.step.there b.other.there x.step.placed placed
+  abbrev found_first : (history : List Step) (x : FoundAt its_past history g f) → FoundFirst c i calls history g.at g.id
+  found_first history x = record { opened = x.position; found_so = found_own history x; finds = x.finds; first = x.first; more = x.more; stood = x.stood }
+
+  module _ (listed : ℕ) (own : IsOf q.opened listed) (call : Call) (there : slice_get calls listed ≡ Some call) (asks : asked call.command ≡ asks_query (chunks_query (chunks_space g.at) f.id)) where
+    -- that before it listed the chunks
+    found_before : (history : List Step) → Stands calls history → (x : FoundAt its_past history g f) (position : ℕ) → call.position ≡ Some position → x.position < position
+    found_before history stands x position placed =
+        let s = stands.same x.step.place x.step.call x.position x.step.there x.step.placed in
+        let same : s.0 ≡ x.finds.step = same_some s.0 x.finds.step (sym s.1 ∙ x.finds.there) in
+        let found : IsOf q.opened x.step.place = elim x.step.own [
+          | inl of ↦ of
+          | inr late ↦ let within = get_within calls x.step.place x.step.call x.step.there in absurd (omega (arith, late, within))
+        ] in
+        let rise = rise_first q.opened (concat q.owns ++ q.now) c.begun (subst (Rise c.begun) (sym sent.whole) (of_rise c i)) in
+        let first = find_first g f calls opened.named c.begun 5 q.opened rise opened.finds.falling x.step.place listed x.step.call call found own x.step.there there
+        (ap asked (sym s.2 ∙ ap (λ (y : Step). y.command) same) ∙ x.finds.asks) asks in
+        stands.rising x.step.place listed x.step.call call x.position position first x.step.there there x.step.placed placed
+
+    listed_own : (position : ℕ) → call.position ≡ Some position → IsStepOf c i calls position
+    listed_own position placed = record { done = 0; place = listed; sent = sent.opened listed own; call = call; there = there; placed = placed }
+
+    lists_at : (history : List Step) → Stands calls history → (position : ℕ) → call.position ≡ Some position → AsksAt history position (chunks_query (chunks_space g.at) f.id)
+    lists_at history stands position placed = let s = stands.same listed call position there placed in record { step = s.0; there = s.1; asks = ap asked s.2 ∙ asks }
+
+  -- what it read so
+  reads_file : (Hold : FileRecord → List ℕ → List Fields → Type 0) (bytes : List ℕ) (listed : ℕ) → IsOf q.opened listed → ((f.length ≡ 0) × (bytes ≡ [])) ⊎ ListsSo calls g.at f listed (Hold f bytes) → (history : List Step) → IsLegal history → Stands calls history → ReadsFile Hold c i calls history g.at g.id f bytes
+  reads_file Hold bytes listed own so history legal stands =
+      let x = its_record history legal stands in
+      record {
+        found = found_first history x;
+        reads_as = x.reads_as;
+        bytes_so = elim so [
+          | inl none ↦ inl none
+          | inr l ↦
+              let a = l.asked_so in
+              let y = l.each history legal stands in
+              inr (record { fetched = y.0; later = found_before listed own a.call a.there a.asks history stands x y.0 y.1; listed_so = listed_own listed own a.call a.there a.asks y.0 y.1; lists = lists_at listed own a.call a.there a.asks history stands y.0 y.1; chunks_so = y.2 })
+        ];
+      }
+
+module _ (c : Course) (i n : ℕ) (calls : List Call) (wire : ℤ) (g : GetTask) (q : Places) (sent : AllSent c i q n) (e : Error) (b : Blamed calls wire q g e) where
+  abbrev blamed_record : (history : List Step) → IsLegal history → Stands calls history → FoundAt (sent_at q.opened calls wire) history g b.file
+  blamed_record history legal stands = its_record c i n calls wire g q sent b.file b.at b.opened history legal stands
+
+  abbrev blamed_own : (history : List Step) (x : FoundAt (sent_at q.opened calls wire) history g b.file) → IsStepOf c i calls x.position
+  blamed_own history x = found_own c i n calls wire g q sent b.file b.at b.opened history x
 
   -- it is not so of a whole file
   never_whole : SendsOnly (IsGetCommand g) c i calls → NeverWhole c i calls g.at g.id
   never_whole sends history legal stands first last is_first is_last leave whole size w =
-      let x = its_record history legal stands in
+      let x = blamed_record history legal stands in
       let leaves = all_leave c i calls g sends history legal stands first last is_first is_last leave in
-      let low = is_first.first x.position (found_own history x) in
-      let high = is_last.last x.position (found_own history x) in
+      let low = is_first.first x.position (blamed_own history x) in
+      let high = is_last.last x.position (blamed_own history x) in
       let step = stands.same x.step.place x.step.call x.position x.step.there x.step.placed in
       let within = get_within history x.position step.0 step.1 in
       let m : ℕ = suc x.position - first in
@@ -275,19 +311,19 @@ module _ (c : Course) (i n : ℕ) (calls : List Call) (wire : ℤ) (g : GetTask)
   -- what it found and listed
   read_other : HasReadOther c i calls g.at g.id e
   read_other history legal stands =
-      let x = its_record history legal stands in
-      let d = b.other.differ history legal stands in
-      let s = stands.same b.listed b.other.call d.0 b.other.there d.1 in
+      let x = blamed_record history legal stands in
+      let o = b.other in
+      let d = o.differ history legal stands in
       record {
-        found = record { opened = x.position; found_so = found_own history x; finds = x.finds; first = x.first; more = x.more; stood = x.stood };
+        found = found_first c i n calls wire g q sent b.file b.at b.opened history x;
         file = b.file;
         reads_as = x.reads_as;
-        count = b.other.count;
-        counted = b.other.counted;
+        count = o.count;
+        counted = o.counted;
         fetched = d.0;
-        later = found_before history stands x d.0 d.1;
-        listed_so = record { done = 0; place = b.listed; sent = sent.opened b.listed b.own; call = b.other.call; there = b.other.there; placed = d.1 };
-        lists = record { step = s.0; there = s.1; asks = ap asked s.2 ∙ b.other.asks };
+        later = found_before c i n calls wire g q sent b.file b.at b.opened b.listed b.own o.call o.there o.asks history stands x d.0 d.1;
+        listed_so = listed_own c i n calls wire g q sent b.file b.at b.opened b.listed b.own o.call o.there o.asks d.0 d.1;
+        lists = lists_at c i n calls wire g q sent b.file b.at b.opened b.listed b.own o.call o.there o.asks history stands d.0 d.1;
         differ = d.2;
       }
 
@@ -301,7 +337,7 @@ found_broken c i n calls wire g q sent e history legal stands (inr b) = other_ch
 
 -- ---- all of a get
 
-stage_filed : (awaited : Awaited) (c : Course) (i n : ℕ) (calls : List Call) (wire : ℤ) (g : GetTask) (s : GetStage) (bytes : List ℕ) (done : ℕ) (at : Option ℕ) (q : Places) → GetKnowsAt awaited calls g s bytes at → GetTells awaited calls wire q g s done at → AllSent c i q n → SendsOnly (IsGetCommand g) c i calls
+stage_filed : (awaited : Awaited) (c : Course) (i n : ℕ) (calls : List Call) (wire : ℤ) (g : GetTask) (s : GetStage) (bytes : List ℕ) (done : ℕ) (at : Option ℕ) (q : Places) → GetKnowsAt awaited calls g s bytes at → GetTells awaited calls wire q g s bytes done at → AllSent c i q n → SendsOnly (IsGetCommand g) c i calls
     → GetGave c i calls g bytes (get_end s)
 stage_filed awaited c i n calls wire g gets.Unsent bytes done at q k t sent sends = (nothing_front c i calls g bytes k.0, inl k.0)
 stage_filed awaited c i n calls wire g (gets.Opens opening) bytes done at q k t sent sends = (nothing_front c i calls g bytes k.2, inl k.2)
@@ -311,19 +347,29 @@ stage_filed awaited c i n calls wire g (gets.Reads download room) bytes done at 
           let own = listed_sent c i n calls wire g d.file at q k.0 t.0 sent k.2 in
           let r = read_front c i calls g sends history legal stands first last is_first is_last leave awaited d bytes k.0 0 k.1 k.3 own whole size w in
           (d.ahead ++ r.0, r.1 ∙ append_assoc bytes d.ahead r.0),
-      inr (record { download = d; unspoiled = k.3; reads = λ history legal stands. download_reads awaited calls g.at g.id d bytes k.0 k.1 k.3 history legal stands }),
+      inr (record {
+        file = d.file;
+        more = d.ahead;
+        reads = reads_file c i n calls wire g q sent d.file at t.0 FirstHold (bytes ++ d.ahead) k.0 (t.0.listed k.0 k.2)
+            (front_lists awaited calls g.at d bytes k.1.of_record.front.place k.0 d.doing refl k.3 k.1.by (subst (EndsAsListed calls g.at d bytes) k.2 t.8));
+      }),
     )
 stage_filed awaited c i n calls wire g (gets.Ended ended.Unfinished) bytes done at q k t sent sends = absurd k
 stage_filed awaited c i n calls wire g (gets.Ended (ended.Gave x)) bytes done at q k t sent sends =
     let d : ClientDownload = k.0 in
     let unspoiled : d.doing ≡ downloads.spoiled → ⊥ = λ bad. let both : downloads.ended ≡ downloads.spoiled = sym k.3 ∙ bad in absurd cc in
-    let ahead : d.ahead ≡ [] = none_ahead awaited calls g.at d bytes k.2.of_record.front.place k.1 d.doing k.3 k.2.by in (
+    let ahead : d.ahead ≡ [] = none_ahead awaited calls g.at d bytes k.2.of_record.front.place k.1 d.doing k.3 k.2.by in
+    let h = t.4 in (
       λ history legal stands first last is_first is_last leave whole size w.
           let own = listed_sent c i n calls wire g t.1 at q k.1 t.2 sent k.4 in
           let r = read_front c i calls g sends history legal stands first last is_first is_last leave awaited d bytes k.1 0 k.2 unspoiled own whole size w in
           let all : whole ≡ bytes ++ [] ++ [] = r.1 ∙ ap (λ (l : List ℕ). bytes ++ l ++ r.0) ahead ∙ ap (λ (l : List ℕ). bytes ++ [] ++ l) (r.2 k.3) in
           sym (all ∙ append-nil (bytes ++ []) ∙ append-nil bytes),
-      record { download = d; over = k.3; none_ahead = ahead; reads = λ history legal stands. download_reads awaited calls g.at g.id d bytes k.1 k.2 unspoiled history legal stands },
+      record {
+        file = h.download.file;
+        reads = reads_file c i n calls wire g q sent h.download.file at (subst (λ (f : FileRecord). TellsGetOpened calls wire q g f at) (sym h.its) t.2) AllHold bytes h.listed (t.2.listed h.listed h.here)
+            (ended_lists awaited calls g.at h.download bytes h.knows.of_record.front.place h.listed (subst (KnowsBy awaited calls g.at h.download bytes h.knows.of_record.front.place h.listed) h.over h.knows.by) h.over (subst (EndsAsListed calls g.at h.download bytes) h.here h.lists));
+      },
     )
 stage_filed awaited c i n calls wire g (gets.Ended (ended.Failed e)) bytes done at q k t sent sends = (
   λ blames. let b = blamed calls wire q g done e t.0 blames in (never_whole c i n calls wire g q sent e b sends, read_other c i n calls wire g q sent e b),
@@ -331,6 +377,6 @@ stage_filed awaited c i n calls wire g (gets.Ended (ended.Failed e)) bytes done 
 )
 
 -- What a get knows and tells at the end of a run says whose bytes it gave.
-pub get_filed : (awaited : Awaited) (c : Course) (i n : ℕ) (calls : List Call) (wire : ℤ) (job : GetPlayer) (o : Owner) (at : Option ℕ) (q : Places) → GetPlays awaited calls job o at → GetTells awaited calls wire q (sought job.what) job.stage job.done at → AllSent c i q n → SendsOnly (IsGetCommand (sought job.what)) c i calls
+pub get_filed : (awaited : Awaited) (c : Course) (i n : ℕ) (calls : List Call) (wire : ℤ) (job : GetPlayer) (o : Owner) (at : Option ℕ) (q : Places) → GetPlays awaited calls job o at → GetTells awaited calls wire q (sought job.what) job.stage job.bytes.items job.done at → AllSent c i q n → SendsOnly (IsGetCommand (sought job.what)) c i calls
     → GetGave c i calls (sought job.what) job.bytes.items (get_end job.stage)
 get_filed awaited c i n calls wire job o at q plays tells sent sends = stage_filed awaited c i n calls wire (sought job.what) job.stage job.bytes.items job.done at q plays.knows tells sent sends

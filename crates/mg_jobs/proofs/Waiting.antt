@@ -173,11 +173,11 @@ stage_own awaited past at sent inserts.Unsent ticket tells holds = absurd cc
 stage_own awaited past at sent (inserts.Goes i) ticket tells holds = insert_own awaited past at sent i ticket tells.0 holds
 stage_own awaited past at sent (inserts.Ended e) ticket tells holds = absurd cc
 
-get_own : (awaited : Awaited) (calls : List Call) (wire : ℤ) (c : Course) (i : ℕ) (q : Places) (g : GetTask) (s : GetStage) (done : ℕ) (at : Option ℕ) (ticket : ℕ) → AllSent c i q done → GetTells awaited calls wire q g s done at → gets_ticket s ≡ Some ticket → SentOwn awaited c i ticket
-get_own awaited calls wire c i q g gets.Unsent done at ticket sent t holds = absurd cc
-get_own awaited calls wire c i q g (gets.Opens opening) done at ticket sent t holds = sent_own awaited c i done q.now calls wire ticket sent.now (files.opening_own awaited (sent_at q.now calls wire) (finding_of opening) ticket t.2 t.3 holds)
-get_own awaited calls wire c i q g (gets.Reads download room) done at ticket sent t holds = sent_own awaited c i done q.now calls wire ticket sent.now (files.fetching_own awaited (sent_at q.now calls wire) (download_of download) ticket t.2 holds)
-get_own awaited calls wire c i q g (gets.Ended e) done at ticket sent t holds = absurd cc
+get_own : (awaited : Awaited) (calls : List Call) (wire : ℤ) (c : Course) (i : ℕ) (q : Places) (g : GetTask) (s : GetStage) (bytes : List ℕ) (done : ℕ) (at : Option ℕ) (ticket : ℕ) → AllSent c i q done → GetTells awaited calls wire q g s bytes done at → gets_ticket s ≡ Some ticket → SentOwn awaited c i ticket
+get_own awaited calls wire c i q g gets.Unsent bytes done at ticket sent t holds = absurd cc
+get_own awaited calls wire c i q g (gets.Opens opening) bytes done at ticket sent t holds = sent_own awaited c i done q.now calls wire ticket sent.now (files.opening_own awaited (sent_at q.now calls wire) (finding_of opening) ticket t.2 t.3 holds)
+get_own awaited calls wire c i q g (gets.Reads download room) bytes done at ticket sent t holds = sent_own awaited c i done q.now calls wire ticket sent.now (files.fetching_own awaited (sent_at q.now calls wire) (download_of download) ticket t.2 holds)
+get_own awaited calls wire c i q g (gets.Ended e) bytes done at ticket sent t holds = absurd cc
 
 put_own : (awaited : Awaited) (calls : List Call) (wire : ℤ) (c : Course) (i : ℕ) (supply : Supply) (t : PutTask) (done : ℕ) (s : PutStage) (q : Places) (ticket : ℕ) → PutTells awaited calls wire q supply t done s → AllSent c i q (put_number done s) → puts_ticket s ≡ Some ticket → SentOwn awaited c i ticket
 put_own awaited calls wire c i supply t done puts.Undrawn q ticket tells sent holds = absurd cc
@@ -192,7 +192,7 @@ job_own supply first awaited calls wire c i (player.Insert job) at ticket t hold
     sent_own awaited c i 0 t.places.now calls wire ticket t.sent.now (stage_own awaited (sent_at t.places.now calls wire) (space job.ns.now) (with_ids supply.ids first job.documents.now) job.stage ticket t.tells.tells holds)
 job_own supply first awaited calls wire c i (player.Follow job) at ticket t holds = follow_own awaited calls wire c i job.stage (kept job) at ticket (record { places = t.places; tells = t.tells; sent = t.sent }) holds
 job_own supply first awaited calls wire c i (player.Put job) at ticket t holds = put_own awaited calls wire c i (supply_from supply first) (writes job.what) job.done job.stage t.places ticket t.tells t.sent holds
-job_own supply first awaited calls wire c i (player.Get job) at ticket t holds = get_own awaited calls wire c i t.places (sought job.what) job.stage job.done at ticket t.sent t.tells holds
+job_own supply first awaited calls wire c i (player.Get job) at ticket t holds = get_own awaited calls wire c i t.places (sought job.what) job.stage job.bytes.items job.done at ticket t.sent t.tells holds
 
 -- ---- at the end of a run
 

@@ -134,13 +134,13 @@ module _ (c : Course) (i : ℕ) (calls : List Call) (wire : ℤ) (q : Places) (g
         causes.not_read some d (get_opened d.file at opened) n.0 (let is = n.1 in omega (arith, turned, is)) q.now (subst (λ (m : ℕ). AllSentIn c i m q.now) n.1 sent.now) cursor fails its sound plain (all_sent n.0 n.1 counted opened.more)
         (record { places = all_places q; sent = all_own c i q done sent; listed = listed; by_opening = sent.opened listed of; held = held; why = why })
 
-    get_end_caused : (awaited : Awaited) (end : Ended (Unit {0})) (at : Option ℕ) → GetEndedAt end done (turns_done i c.order c.notes) → TellsGetEnd calls wire q g done at end → GetCaused awaited c i calls wire g bytes end
-    get_end_caused awaited ended.Unfinished at turned t = absurd turned
-    get_end_caused awaited (ended.Gave x) at turned t =
+    get_end_caused : (awaited : Awaited) (end : Ended (Unit {0})) (given : List ℕ) (at : Option ℕ) → GetEndedAt end done (turns_done i c.order c.notes) → TellsGetEnd awaited calls wire q g given done at end → GetCaused awaited c i calls wire g bytes end
+    get_end_caused awaited ended.Unfinished given at turned t = absurd turned
+    get_end_caused awaited (ended.Gave x) given at turned t =
         let counted = t.3 in
         let many = turned.1 in
         (t.0, t.1, get_opened t.1 at t.2, length q.owns, omega (arith, counted, many), q.now, all_sent (length q.owns) (sym t.3) t.3 t.2.more)
-    get_end_caused awaited (ended.Failed e) at turned t = (get_fails e turned t.0, asked_so t.1)
+    get_end_caused awaited (ended.Failed e) given at turned t = (get_fails e turned t.0, asked_so t.1)
 
 -- ---- what it heard
 
@@ -197,16 +197,16 @@ module _ (awaited : Awaited) (c : Course) (i : ℕ) (calls : List Call) (wire : 
   opening_waits o None is sent whole aim sound h held = absurd (none_waits o.doing (sound.none is) held)
   opening_waits o (Some b) is sent whole aim sound h held = looking_waits awaited c i calls wire q g bytes b o.id o.doing sent whole aim.id_is (aim.placed b is) held (h b is)
 
-  pub get_caused : (s : GetStage) (done : ℕ) (at : Option ℕ) → AllSent c i q done → GetTells awaited calls wire q g s done at → GetStageAt s bytes done (turns_done i c.order c.notes) (pends_last i c.order c.notes) g.read → GetCaused awaited c i calls wire g bytes (get_end s)
-  get_caused gets.Unsent done at sent t is_at = (λ pended. let bad : false ≡ true = sym is_at.3 ∙ pended in absurd cc, unopened_so c i calls wire q g done sent bytes is_at.2 t.0 is_at.1 None (record { finds = subst (λ (l : List ℕ). FallsAt (IsFindAt g None) calls 5 l 1) (sym t.1) (falls_none (IsFindAt g None) calls 5 1 (omega arith)); heard = λ f is. let bad : None ≡ Some f = is in absurd cc }))
-  get_caused (gets.Opens opening) done at sent t is_at = (
+  pub get_caused : (s : GetStage) (given : List ℕ) (done : ℕ) (at : Option ℕ) → AllSent c i q done → GetTells awaited calls wire q g s given done at → GetStageAt s bytes done (turns_done i c.order c.notes) (pends_last i c.order c.notes) g.read → GetCaused awaited c i calls wire g bytes (get_end s)
+  get_caused gets.Unsent given done at sent t is_at = (λ pended. let bad : false ≡ true = sym is_at.3 ∙ pended in absurd cc, unopened_so c i calls wire q g done sent bytes is_at.2 t.0 is_at.1 None (record { finds = subst (λ (l : List ℕ). FallsAt (IsFindAt g None) calls 5 l 1) (sym t.1) (falls_none (IsFindAt g None) calls 5 1 (omega arith)); heard = λ f is. let bad : None ≡ Some f = is in absurd cc }))
+  get_caused (gets.Opens opening) given done at sent t is_at = (
     λ pended. opening_waits (finding_of opening) (finding_of opening).bucket refl (subst (λ (n : ℕ). AllSentIn c i n q.now) is_at.1 sent.now) (alone c i calls wire q g done sent t.0) t.1 t.2 t.3 (is_at.3 ∙ pended),
     unopened_so c i calls wire q g done sent bytes is_at.2 t.0 is_at.1 (found_in (finding_of opening).doing) (record {
       finds = falls_below (IsFindAt g (found_in (finding_of opening).doing)) calls 5 q.now (finding_places (finding_of opening).doing) 1 (places_left (finding_of opening).doing) t.4;
       heard = opening_heard (sent_at q.now calls wire) g awaited (finding_of opening) (finding_of opening).bucket refl t.1 t.2 t.3;
     }),
   )
-  get_caused (gets.Reads download room) done at sent t is_at =
+  get_caused (gets.Reads download room) given done at sent t is_at =
       let n = above done is_at.1 in
       let d : ClientDownload = download_of download in
       let these : GetSent c i calls g bytes q.opened n.0 q.now = all_sent c i calls wire q g done sent bytes is_at.2 is_at.4 n.0 n.1 t.1 t.0.more in (
@@ -215,4 +215,4 @@ module _ (awaited : Awaited) (c : Course) (i : ℕ) (calls : List Call) (wire : 
             causes.for_more n.0 q.now (subst (λ (m : ℕ). AllSentIn c i m q.now) n.1 sent.now) w.0.id w.0.space w.1 d.file (get_opened c i calls wire q g done sent d.file at t.0) these,
         causes.has_opened d.file (get_opened c i calls wire q g done sent d.file at t.0) n.0 q.now these,
       )
-  get_caused (gets.Ended end) done at sent t is_at = get_end_caused c i calls wire q g done sent bytes is_at.1 is_at.3 awaited end at is_at.0 t
+  get_caused (gets.Ended end) given done at sent t is_at = get_end_caused c i calls wire q g done sent bytes is_at.1 is_at.3 awaited end given at is_at.0 t

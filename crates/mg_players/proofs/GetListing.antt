@@ -62,7 +62,7 @@ chunks_result s space id ds is =
     let xs = filter (matches (c ∷ [])) (documents_of s space) in
     ap (sorted by_number) (sym (those_same c (documents_of s space))) ∙ sorted_so (can_sort by_number xs) (sorted by_number xs) ds is
 
-chunks_are : (s : State) (at : Bucket) (id : Tree) (ds : List Fields) → result s (chunks_query (chunks_space at) id) ≡ Some ds → (file_of s at id).chunks ≡ ds
+pub chunks_are : (s : State) (at : Bucket) (id : Tree) (ds : List Fields) → result s (chunks_query (chunks_space at) id) ≡ Some ds → (file_of s at id).chunks ≡ ds
 unfolding file_of
 chunks_are s at id ds is = chunks_result s (chunks_space at) id ds is
 

@@ -320,7 +320,7 @@ rested_free d sound rests = rested_by d d.doing sound.by rests
 -- its chunks are listed, or it has none
 pub data IsNewDownload (d : ClientDownload) : Type 0 where
   lists_some : (f : FileRecord) (count : ℕ) (out : CursorSpecification) (bytes : List ℕ) → OpensWith None None None bytes out → d ≡ new_download f count (new_client out) → IsNewDownload d
-  has_none : (f : FileRecord) → d ≡ empty_download f → IsNewDownload d
+  has_none : (f : FileRecord) → f.length ≡ 0 → d ≡ empty_download f → IsNewDownload d
 
 module _ (d : ClientDownload) where
   same_opened : (x : ClientDownload) → findings.opens d ≡ findings.opens x → d ≡ x
@@ -335,7 +335,7 @@ module _ (d : ClientDownload) where
   module _ (wire : ℤ) (b : ClientBucket) where
     file_new : (old new : Awaited) (log log' : LogTold) (f : FileRecord) → OpensFile old new log log' wire b f (findings.opens d) → IsNewDownload d
     file_new old new log log' f (findings.too_many m breaks none is) = absurd (let bad : findings.opens d ≡ findings.fails (downloads.broken m) = is in cc)
-    file_new old new log log' f (findings.is_empty empty none is) = has_none f (same_opened (empty_download f) is)
+    file_new old new log log' f (findings.is_empty empty none is) = has_none f empty (same_opened (empty_download f) is)
     file_new old new log log' f (findings.not_built full e why none is) = absurd (let bad : findings.opens d ≡ findings.fails e = is in cc)
     file_new old new log log' f (findings.listed full count counted s new_one on) = list_new f count on.came on.hears
 
@@ -364,8 +364,8 @@ module _ (d : ClientDownload) where
   new_plain (lists_some f count out bytes with is) =
       let manner : (new_client out).manner ≡ no_manner = rw (with.opens.size_is, with.time_is, with.comment_is) refl in
       one_plain d.doing (new_client out) (ap (λ (x : ClientDownload). cursor_in x.doing) is) manner
-  new_plain (has_none f is) = none_plain d (ap (λ (x : ClientDownload). cursor_in x.doing) is)
+  new_plain (has_none f empty is) = none_plain d (ap (λ (x : ClientDownload). cursor_in x.doing) is)
 
   pub new_giving : IsNewDownload d → IsGiving d.doing
   new_giving (lists_some f count out bytes with is) = subst (λ (x : ClientDownload). IsGiving x.doing) (sym is) tt
-  new_giving (has_none f is) = subst (λ (x : ClientDownload). IsGiving x.doing) (sym is) tt
+  new_giving (has_none f empty is) = subst (λ (x : ClientDownload). IsGiving x.doing) (sym is) tt

@@ -19,6 +19,7 @@ use Rattle.mg_link.proofs.Apart.{holds_nobody, onward_refl, passes_here, passes_
 use Rattle.mg_link.proofs.Calls.{grows_on, keeps_longer, log_grows, same_keeps}
 use Rattle.mg_link.proofs.Places.{get_within}
 use Rattle.mg_options.specs.Fields.{Line, fields_in}
+use Rattle.mg_ops.specs.Naming.{IsNamed}
 use Rattle.mg_cursor.specs.Causes.{IsUnderway, TellsNoCursor, UnderwayBy}
 use Rattle.mg_cursor.specs.Client as client
 use Rattle.mg_cursor.specs.Client.{ClientCursor}
@@ -47,7 +48,7 @@ use Rattle.mg_players.specs.Causes.{FallsAt, sent_at, sent_since}
 use Rattle.mg_players.specs.Buckets.{plain_bucket}
 use Rattle.mg_players.specs.Gets.{AsksForMore, AsksPlainly, GetKnowsAt, GetTask, IsFindAt, IsGetCommand, IsOpeningFor, KeepsRead, OpensAs, done_behind, get_owner, room_of, sought}
 use Rattle.mg_players.specs.Plays.{Moves, MovesTo, Places, all_places, by_finding, no_move}
-use Rattle.mg_players.specs.Reading.{CountsIn, HeardHeld, ListsIts, ListsOther, SentNone}
+use Rattle.mg_players.specs.Reading.{CountsIn, EndsAsListed, HeardHeld, ListsIts, ListsOther, SentNone}
 use Rattle.mg_players.specs.Telling as tells
 use Rattle.mg_players.specs.Telling.{FindsSoFar, GetTell, GetTells, GetTurns, TellsGetFails, TellsGetOpened, TellsNoCall, finding_places}
 use Rattle.mg_players.specs.declared.get.GetPlayer.{GetPlayer}
@@ -59,6 +60,7 @@ use Rattle.mg_players.proofs.GetCausing.{heard_same}
 use Rattle.mg_players.proofs.GetAdding.{adds_more, all_below, asks_answered, asks_going, now_below}
 use Rattle.mg_players.proofs.GetAsking.{FindsBy, opening_adds, opening_finds}
 use Rattle.mg_players.proofs.GetCounting.{counts_in_grow, heard_empty_grows}
+use Rattle.mg_players.proofs.GetEnding.{ends_on, new_ends}
 use Rattle.mg_players.proofs.GetMores.{MoresBehind, read_last}
 use Rattle.mg_players.proofs.GetNewest.{download_kept, opens_last}
 use Rattle.mg_players.proofs.GetSending.{IsGiving, IsNewDownload, ReadsOn, found_same, has_none, listed_same, lists_some, new_giving, new_plain, opened_new, read_gives, read_on}
@@ -287,8 +289,10 @@ module _ (old new : Awaited) (log log' : LogTold) (wire : ℤ) (job : GetPlayer)
         let b = bucket_opens old new log log' wire o d opens in
         let past : Past = past_of q.now (length calls) calls' wire in
         let later : Past = sent_at (sent_since q.now (length calls) (length calls')) calls' wire in
-        let here : HeardRecord past (plain_bucket g.at) g.id (Some d.file) = subst (λ (id : Tree). HeardRecord past (plain_bucket g.at) id (Some d.file)) aim.id_is (heard_same past g b.0 o.id (Some d.file) (aim.placed b.0 b.1) (came b.0 b.1)) in
+        let plain : IsPlainAt b.0 g.at = aim.placed b.0 b.1 in
+        let here : HeardRecord past (plain_bucket g.at) g.id (Some d.file) = subst (λ (id : Tree). HeardRecord past (plain_bucket g.at) id (Some d.file)) aim.id_is (heard_same past g b.0 o.id (Some d.file) plain (came b.0 b.1)) in
         record {
+          named = subst IsNamed plain.place.chunks plain.chunks;
           heard = record_grows past later (grows_ended q.now (length calls) calls' wire) (plain_bucket g.at) g.id (Some d.file) here;
           listed = opened_place calls calls' q at room h placed;
           finds = subst (λ (x : Option FileRecord). FallsAt (IsFindAt g x) calls' 5 (sent_since q.now (length calls) (length calls')) 1) f.by f.falls;
@@ -301,7 +305,7 @@ module _ (old new : Awaited) (log log' : LogTold) (wire : ℤ) (job : GetPlayer)
         let here : cursor_in d.doing ≡ Some (client.new_client out) = ap (λ (x : ClientDownload). cursor_in x.doing) is in
         let same : client.new_client out ≡ c = (let e : Some (client.new_client out) ≡ Some c = sym here ∙ at in cc) in
         subst (λ (x : ClientCursor). IsUnderway new past x) same tt
-    new_fetching past (has_none f is) c at = absurd (let e : None ≡ Some c = sym (ap (λ (x : ClientDownload). cursor_in x.doing) is) ∙ at in cc)
+    new_fetching past (has_none f empty is) c at = absurd (let e : None ≡ Some c = sym (ap (λ (x : ClientDownload). cursor_in x.doing) is) ∙ at in cc)
 
     -- all that it sent is told
     opened_grows_to : (calls calls' : List Call) (q : Places) → Grows (past_of q.now (length calls) calls' wire) (sent_at (all_places (opened_by q (length calls) (length calls'))) calls' wire)
@@ -314,17 +318,17 @@ module _ (old new : Awaited) (log log' : LogTold) (wire : ℤ) (job : GetPlayer)
     opened_last : (calls' : List Call) (now : List ℕ) → DownloadLast new calls' (λ (n : ℕ). IsOf now n) d → DownloadLast new calls' (λ (n : ℕ). IsOf (now ++ []) n) d
     opened_last calls' now last = download_kept calls' calls' (same_keeps calls') (λ (n : ℕ). IsOf now n) (λ (n : ℕ). IsOf (now ++ []) n) (λ place of. in_first now [] place of) (λ other of. subst (λ (l : List ℕ). IsOf l other) (append-nil now) of) new new d (λ m e. refl) last
 
-    stage_tells : (s : GetStage) (done : ℕ) → OpensAs download s → done ≡ done_behind s job.done → (calls calls' : List Call) (q : Places) (at : Option ℕ) → GetTells old calls wire q g (gets.Opens opening) job.done None → FindsBy calls' wire g (sent_since q.now (length calls) (length calls')) (findings.opens d) → AddsOnly (IsGetCommand g) calls calls' → length calls ≤ length calls'
+    stage_tells : (s : GetStage) (given : List ℕ) (done : ℕ) → given ≡ [] → OpensAs download s → done ≡ done_behind s job.done → (calls calls' : List Call) (q : Places) (at : Option ℕ) → GetTells old calls wire q g (gets.Opens opening) given job.done None → FindsBy calls' wire g (sent_since q.now (length calls) (length calls')) (findings.opens d) → AddsOnly (IsGetCommand g) calls calls' → length calls ≤ length calls'
         → MovesTo moves calls calls' None at → ((b : ClientBucket) → o.bucket ≡ Some b → OpeningCame new (past_of q.now (length calls) calls' wire) b o.id (findings.opens d)) → ListsIts (past_of q.now (length calls) calls' wire) g d
-        → DownloadLast new calls' (λ (n : ℕ). IsOf (sent_since q.now (length calls) (length calls')) n) d → GetTell new calls calls' wire q job.done g s done at
-    stage_tells gets.Unsent done opens_so behind calls calls' q at t f adds room placed came lists last = absurd opens_so
-    stage_tells (gets.Opens x) done opens_so behind calls calls' q at t f adds room placed came lists last = absurd opens_so
-    stage_tells (gets.Reads x hand) done opens_so behind calls calls' q at t f adds room placed came lists last =
+        → DownloadLast new calls' (λ (n : ℕ). IsOf (sent_since q.now (length calls) (length calls')) n) d → GetTell new calls calls' wire q job.done g s given done at
+    stage_tells gets.Unsent given done none opens_so behind calls calls' q at t f adds room placed came lists last = absurd opens_so
+    stage_tells (gets.Opens x) given done none opens_so behind calls calls' q at t f adds room placed came lists last = absurd opens_so
+    stage_tells (gets.Reads x hand) given done none opens_so behind calls calls' q at t f adds room placed came lists last =
         let q' : Places = opened_by q (length calls) (length calls') in
         record {
           longer = room;
           places = q';
-          tells = subst (λ (y : GridFsDownloadStream). GetTells new calls' wire q' g (gets.Reads y hand) done at) (sym opens_so) (
+          tells = subst (λ (y : GridFsDownloadStream). GetTells new calls' wire q' g (gets.Reads y hand) given done at) (sym opens_so) (
             tells_opened calls calls' q at t.1 room t.3 placed came f,
             omega (arith, behind, first),
             new_fetching (sent_at q'.now calls' wire) new_one,
@@ -333,13 +337,14 @@ module _ (old new : Awaited) (log log' : LogTold) (wire : ℤ) (job : GetPlayer)
             lists_grow (past_of q.now (length calls) calls' wire) (sent_at (all_places q') calls' wire) (opened_grows_to calls calls' q) (onward_refl calls' nobody) g d lists,
             opened_last calls' (sent_since q.now (length calls) (length calls')) last,
             giving_counts new (sent_at (all_places q') calls' wire) (sent_at q'.now calls' wire) g d.file d.doing (new_giving d new_one) (none_yet calls' wire),
+            new_ends calls' g.at d given at new_one none,
           );
           extends = extends_opened q job.done done (length calls) (length calls') first t.0.0 t.0.1 room;
           adds = adds;
         }
-    stage_tells (gets.Ended ended.Unfinished) done opens_so behind calls calls' q at t f adds room placed came lists last = absurd opens_so
-    stage_tells (gets.Ended (ended.Gave x)) done opens_so behind calls calls' q at t f adds room placed came lists last = absurd opens_so
-    stage_tells (gets.Ended (ended.Failed e)) done opens_so behind calls calls' q at t f adds room placed came lists last = record {
+    stage_tells (gets.Ended ended.Unfinished) given done none opens_so behind calls calls' q at t f adds room placed came lists last = absurd opens_so
+    stage_tells (gets.Ended (ended.Gave x)) given done none opens_so behind calls calls' q at t f adds room placed came lists last = absurd opens_so
+    stage_tells (gets.Ended (ended.Failed e)) given done none opens_so behind calls calls' q at t f adds room placed came lists last = record {
       longer = room;
       places = going_on q (length calls) (length calls');
       tells = (tells.out_of_memory (ap (λ (x : Error). x.kind) opens_so), tells.in_opening t.0 (behind ∙ first) f.found (record { finds = f.falls; heard = f.heard }));
@@ -374,7 +379,7 @@ module _ (old new : Awaited) (log log' : LogTold) (wire : ℤ) (job : GetPlayer)
           let f = opening_finds g old new log log' wire o (findings.opens d) t.1 sound opens calls calls' told told' q.now t.3 c.keeps t.4 in
           let adds = opening_adds g old new log log' wire o (findings.opens d) t.1 sound opens calls calls' told told' q.now t.3 some c.keeps in
           let last = opens_last old new log log' wire o (findings.opens d) opens calls calls' told told' c.room q.now (now_below calls q.now t.4.within) t.5 in
-          stage_tells s after.done opens_so behind calls calls' q at' t f adds c.room placed c.came lists last;
+          stage_tells s after.bytes.items after.done (bytes ∙ k.2) opens_so behind calls calls' q at' t f adds c.room placed c.came lists last;
     }
 
 -- ---- before it
@@ -413,7 +418,7 @@ fails_unsent awaited log wire job e first why = record {
   next = no_move;
   turned = λ calls told own at k. (calls, told, record { place = at; placed = refl; owner = nobody; plays = record { knows = tt; owns = refl }; passes = subst (λ (y : Owner). Passes calls calls y nobody) (sym k.owns) (passes_same calls nobody (holds_nobody calls)) });
   told = λ calls calls' told told' q at at' placed k t.
-      subst (λ (c : List Call). GetTell awaited calls c wire q job.done (sought job.what) (gets.Ended (ended.Failed e)) job.done at') (same_told log calls calls' told told')
+      subst (λ (c : List Call). GetTell awaited calls c wire q job.done (sought job.what) (gets.Ended (ended.Failed e)) job.bytes.items job.done at') (same_told log calls calls' told told')
       (record { longer = omega arith; places = q; tells = (why calls q, tells.in_opening t.0 first None (record { finds = none_asked calls (sought job.what) q t.1 1 (omega arith); heard = λ f is. let bad : None ≡ Some f = is in absurd cc })); extends = extends_same q job.done job.done (length calls) refl; adds = adds_none (IsGetCommand (sought job.what)) calls });
 }
 
@@ -439,7 +444,7 @@ module _ (old new : Awaited) (log log' : LogTold) (wire : ℤ) (job : GetPlayer)
   on_it plain = read_on old new log log' wire (length hand.items) before d' given r sound.between.sound plain reads_so
 
   abbrev Told : List Call → Places → Option ℕ → Type 0
-  Told calls q at = GetTells old calls wire q task (gets.Reads download hand) job.done at
+  Told calls q at = GetTells old calls wire q task (gets.Reads download hand) job.bytes.items job.done at
 
   -- the read in the log behind it
   record ReadCome (calls calls' : List Call) (q : Places) : Type 0 where
@@ -494,6 +499,7 @@ module _ (old new : Awaited) (log log' : LogTold) (wire : ℤ) (job : GetPlayer)
     heard = subst (λ (x : FileRecord). HeardRecord (sent_at q'.opened calls' wire) (plain_bucket task.at) task.id (Some x)) (sym file)
         (subst (λ (l : List ℕ). HeardRecord (sent_at l calls' wire) (plain_bucket task.at) task.id (Some f)) (sym same)
         (record_grows (sent_at q.opened calls wire) (sent_at q.opened calls' wire) (grows_later q.opened calls calls' wire keeps) (plain_bucket task.at) task.id (Some f) t.heard));
+    named = t.named;
     listed = λ place is. subst (λ (l : List ℕ). IsOf l place) (sym same) (t.listed place is);
     finds = subst (λ (x : FileRecord). FallsAt (IsFindAt task (Some x)) calls' 5 q'.opened 1) (sym file)
         (subst (λ (l : List ℕ). FallsAt (IsFindAt task (Some f)) calls' 5 l 1) (sym same) (falls_later (IsFindAt task (Some f)) calls calls' 5 q.opened 1 keeps t.finds));
@@ -531,6 +537,7 @@ read_waits old new log log' wire job download hand sound some download' hand' gi
               left.0,
               subst (λ (l : List ℕ). DownloadLast new calls' (λ (n : ℕ). IsOf l n) d') (sym (whole_going q (length calls) (length calls'))) c.behind.last,
               left.1,
+              subst (λ (x : Option ℕ). EndsAsListed calls' g.at d' job.bytes.items x) (sym placed) (ends_on old new log log' wire (length hand.items) d d' given read.Pending calls calls' c.keeps g.at job.bytes.items job.bytes.items k.1.of_record.front.place k.0 at k.2 on.file (λ e. refl) k.1.by k.3 t.8 reads_so),
             );
             extends = extends_going q job.done job.done (length calls) (length calls') refl c.room;
             adds = c.adds;
@@ -606,6 +613,12 @@ module _ (old new : Awaited) (log log' : LogTold) (wire : ℤ) (job after : GetP
   on_this : AsksPlainly (download_of download) → ReadsOn log log' (download_of download) (download_of download')
   on_this plain = on_it old new log log' wire job download hand sound some (download_of download') (read.Read count) given reads_so caused plain
 
+  -- where it gave nothing, what is known of it is so of the bytes before
+  gave_none : after.bytes.items ≡ job.bytes.items → count ≡ 0 → (calls : List Call) (listed : ℕ) → KnowsDownload new calls aim.at aim.id (download_of download') (job.bytes.items ++ take count hand'.items) listed → KnowsDownload new calls aim.at aim.id (download_of download') after.bytes.items listed
+  gave_none same none calls listed k =
+      let these : job.bytes.items ++ take count hand'.items ≡ after.bytes.items = ap (λ (n : ℕ). job.bytes.items ++ take n hand'.items) none ∙ append-nil job.bytes.items ∙ sym same in
+      subst (λ (l : List ℕ). KnowsDownload new calls aim.at aim.id (download_of download') l listed) these k
+
   kept_knows : (s : GetStage) → KeepsRead download' hand' count job.bytes.items after.bytes.items s → (calls : List Call) (at : Option ℕ) (listed : ℕ) → KnowsDownload new calls aim.at aim.id (download_of download') (job.bytes.items ++ take count hand'.items) listed → at ≡ Some listed → ((download_of download).doing ≡ downloads.spoiled → ⊥)
       → GetKnowsAt new calls aim s after.bytes.items at
   kept_knows gets.Unsent keeps calls at listed k is unspoiled = absurd keeps
@@ -614,10 +627,7 @@ module _ (old new : Awaited) (log log' : LogTold) (wire : ℤ) (job after : GetP
       subst (λ (y : GridFsDownloadStream). (n : ℕ) × KnowsDownload new calls aim.at aim.id (download_of y) after.bytes.items n × (at ≡ Some n) × ((download_of y).doing ≡ downloads.spoiled → ⊥)) (sym keeps.1)
       (listed, subst (λ (l : List ℕ). KnowsDownload new calls aim.at aim.id (download_of download') l listed) (sym keeps.3) k, is, λ bad. subst IsGiving bad (gives_so keeps.0))
   kept_knows (gets.Ended ended.Unfinished) keeps calls at listed k is unspoiled = absurd keeps.1
-  kept_knows (gets.Ended (ended.Gave x)) keeps calls at listed k is unspoiled =
-      let none : count ≡ 0 = keeps.1 in
-      let same : job.bytes.items ++ take count hand'.items ≡ after.bytes.items = ap (λ (n : ℕ). job.bytes.items ++ take n hand'.items) none ∙ append-nil job.bytes.items ∙ sym keeps.0 in
-      (download_of download', listed, subst (λ (l : List ℕ). KnowsDownload new calls aim.at aim.id (download_of download') l listed) same k, at_end none unspoiled, is)
+  kept_knows (gets.Ended (ended.Gave x)) keeps calls at listed k is unspoiled = (download_of download', listed, gave_none keeps.0 keeps.1 calls listed k, at_end keeps.1 unspoiled, is)
   kept_knows (gets.Ended (ended.Failed e)) keeps calls at listed k is unspoiled = tt
 
   kept_passes : (s : GetStage) → KeepsRead download' hand' count job.bytes.items after.bytes.items s → (calls calls' : List Call) (own : Owner) → Passes calls calls' own (doing_owner new (download_of download').doing) → Passes calls calls' own (get_owner new s)
@@ -626,7 +636,13 @@ module _ (old new : Awaited) (log log' : LogTold) (wire : ℤ) (job after : GetP
   kept_passes (gets.Reads x room) keeps calls calls' own p = subst (λ (y : GridFsDownloadStream). Passes calls calls' own (doing_owner new (download_of y).doing)) (sym keeps.1) p
   kept_passes (gets.Ended end) keeps calls calls' own p = to_nobody calls calls' own (doing_owner new (download_of download').doing) p
 
-  kept_tells : (s : GetStage) → KeepsRead download' hand' count job.bytes.items after.bytes.items s → after.done ≡ done_behind s job.done → (calls calls' : List Call) → log ≡ Some calls → log' ≡ Some calls' → (q : Places) (at : Option ℕ) → GetKnowsAt old calls aim (gets.Reads download hand) job.bytes.items at → GetTells old calls wire q aim (gets.Reads download hand) job.done at → GetTell new calls calls' wire q job.done aim s after.done at
+  -- where it has ended, its list was asked for as before
+  still_listed : (count ≡ 0 → after.bytes.items ≡ job.bytes.items) → (calls calls' : List Call) → Keeps calls calls' → (at : Option ℕ) (k : GetKnowsAt old calls aim (gets.Reads download hand) job.bytes.items at) → (download_of download').file ≡ (download_of download).file → EndsAsListed calls aim.at (download_of download) job.bytes.items at
+      → EndsAsListed calls' aim.at (download_of download') after.bytes.items at
+  still_listed same calls calls' keeps at k file e =
+      ends_on old new log log' wire (length hand.items) (download_of download) (download_of download') given (read.Read count) calls calls' keeps aim.at job.bytes.items after.bytes.items k.1.of_record.front.place k.0 at k.2 file (λ none. same (let zero_is : count ≡ 0 = cc in zero_is)) k.1.by k.3 e reads_so
+
+  kept_tells : (s : GetStage) → KeepsRead download' hand' count job.bytes.items after.bytes.items s → after.done ≡ done_behind s job.done → (calls calls' : List Call) → log ≡ Some calls → log' ≡ Some calls' → (q : Places) (at : Option ℕ) → GetKnowsAt old calls aim (gets.Reads download hand) job.bytes.items at → GetTells old calls wire q aim (gets.Reads download hand) job.bytes.items job.done at → GetTell new calls calls' wire q job.done aim s after.bytes.items after.done at
   kept_tells gets.Unsent keeps behind calls calls' told told' q at k t = absurd keeps
   kept_tells (gets.Opens x) keeps behind calls calls' told told' q at k t = absurd keeps
   kept_tells (gets.Reads x room) keeps behind calls calls' told told' q at k t =
@@ -638,7 +654,7 @@ module _ (old new : Awaited) (log log' : LogTold) (wire : ℤ) (job after : GetP
       record {
         longer = c.room;
         places = q';
-        tells = subst (λ (y : GridFsDownloadStream). GetTells new calls' wire q' aim (gets.Reads y room) after.done at) (sym keeps.1) (
+        tells = subst (λ (y : GridFsDownloadStream). GetTells new calls' wire q' aim (gets.Reads y room) after.bytes.items after.done at) (sym keeps.1) (
           still_opened old new log log' wire job download hand sound some (download_of download') (read.Read count) given reads_so caused calls calls' q q' (download_of download).file (download_of download').file at c.keeps refl on.file (asks_answered calls calls' c.keeps q c.behind.mores) t.0,
           omega (arith, more, counted, behind),
           giving_fetching new (sent_at q'.now calls' wire) (download_of download') (download_of download').doing sound'.between.sound.by (gives_so keeps.0),
@@ -647,6 +663,7 @@ module _ (old new : Awaited) (log log' : LogTold) (wire : ℤ) (job after : GetP
           left_by old new log log' wire job download hand sound some (download_of download') (read.Read count) given reads_so caused calls calls' told told' q q' at k t (extends_answered q job.done after.done (length calls) (length calls') (sym counted) c.room).whole,
           subst (λ (l : List ℕ). DownloadLast new calls' (λ (n : ℕ). IsOf l n) (download_of download')) (sym (whole_answered q (length calls) (length calls'))) c.behind.last,
           giving_counts new (sent_at (all_places q') calls' wire) (sent_at q'.now calls' wire) aim (download_of download').file (download_of download').doing (gives_so keeps.0) (none_yet calls' wire),
+          still_listed (λ none. let more = keeps.0 in absurd (omega (arith, more, none))) calls calls' c.keeps at k on.file t.8,
         );
         extends = extends_answered q job.done after.done (length calls) (length calls') (sym counted) c.room;
         adds = c.adds;
@@ -656,10 +673,26 @@ module _ (old new : Awaited) (log log' : LogTold) (wire : ℤ) (job after : GetP
       let c = come_to old new log log' wire job download hand sound some (download_of download') (read.Read count) given reads_so caused calls calls' told told' q at t in
       let q' : Places = going_on q (length calls) (length calls') in
       let f : FileRecord = (download_of download).file in
+      let on = on_this t.4 in
+      let x = knows calls told aim.id job.bytes.items k.0 k.1 in
       record {
         longer = c.room;
         places = q';
-        tells = (some, f, still_opened old new log log' wire job download hand sound some (download_of download') (read.Read count) given reads_so caused calls calls' q q' f f at c.keeps refl refl (asks_going calls calls' c.keeps q c.behind.mores) t.0, t.1 ∙ sym behind);
+        tells = (
+          some,
+          f,
+          still_opened old new log log' wire job download hand sound some (download_of download') (read.Read count) given reads_so caused calls calls' q q' f f at c.keeps refl refl (asks_going calls calls' c.keeps q c.behind.mores) t.0,
+          t.1 ∙ sym behind,
+          record {
+            download = download_of download';
+            its = on.file;
+            over = at_end keeps.1 k.3;
+            listed = k.0;
+            here = k.2;
+            knows = gave_none keeps.0 keeps.1 calls' k.0 (subst (λ (l : List Call). KnowsDownload new l aim.at aim.id (download_of download') (job.bytes.items ++ take count hand'.items) k.0) (same_told log' x.0 calls' x.1 told') x.3);
+            lists = still_listed (λ none. keeps.0) calls calls' c.keeps at k on.file t.8;
+          },
+        );
         extends = extends_going q job.done after.done (length calls) (length calls') behind c.room;
         adds = c.adds;
       }
@@ -693,5 +726,5 @@ module _ (old new : Awaited) (log log' : LogTold) (wire : ℤ) (job after : GetP
           },
         );
     told = λ calls calls' told told' q at at' placed k t.
-        subst (λ (x : Option ℕ). GetTell new calls calls' wire q job.done aim s after.done x) (sym placed) (kept_tells s keeps behind calls calls' told told' q at k t);
+        subst (λ (x : Option ℕ). GetTell new calls calls' wire q job.done aim s after.bytes.items after.done x) (sym placed) (kept_tells s keeps behind calls calls' told told' q at k t);
   }

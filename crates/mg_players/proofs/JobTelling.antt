@@ -57,7 +57,7 @@ job_later supply t old new calls calls' wire q (player.Insert job) at keeps onwa
     }
 job_later supply t old new calls calls' wire q (player.Follow job) at keeps onward same told = tells_later old new calls calls' wire q job.stage (kept job) at keeps same told
 job_later supply t old new calls calls' wire q (player.Put job) at keeps onward same told = put_later supply (writes job.what) old new calls calls' wire q job.done job.stage keeps onward same told
-job_later supply t old new calls calls' wire q (player.Get job) at keeps onward same told = get_tells_later old new calls calls' wire q (sought job.what) job.stage job.done at keeps onward same told
+job_later supply t old new calls calls' wire q (player.Get job) at keeps onward same told = get_tells_later old new calls calls' wire q (sought job.what) job.stage job.bytes.items job.done at keeps onward same told
 
 -- It tells the same where the number of its first id is another, unless it had a turn.
 pub job_of_others : (supply : Supply) (n n' : ℕ) (awaited : Awaited) (calls : List Call) (wire : ℤ) (q : Places) (p : Player) (at : Option ℕ) (had : Bool) → JobHadTurn had p → (had ≡ true → n' ≡ n) → JobTells awaited calls wire q (supply_from supply n) (sent_from supply.ids n (task_of p)) p at → JobTells awaited calls wire q (supply_from supply n') (sent_from supply.ids n' (task_of p)) p at
@@ -171,10 +171,10 @@ abbrev pub get_number : GetPlayer → ℕ
 get_number job = job.done
 
 -- a turn of a get
-pub get_turn : (so : Supply → Task → Type 0) (old new : Awaited) (log log' : LogTold) (wire : ℤ) (job job' : GetPlayer) (next : Moves) → job'.what ≡ job.what → GetGoesOn old new log log' wire (sought job.what) job.stage job.bytes.items job.done job'.stage job'.done next → words.TurnTells get_task GetPlays GetSays get_number so old new log log' wire job job' next
+pub get_turn : (so : Supply → Task → Type 0) (old new : Awaited) (log log' : LogTold) (wire : ℤ) (job job' : GetPlayer) (next : Moves) → job'.what ≡ job.what → GetGoesOn old new log log' wire (sought job.what) job.stage job.bytes.items job.done job'.stage job'.bytes.items job'.done next → words.TurnTells get_task GetPlays GetSays get_number so old new log log' wire job job' next
 get_turn so old new log log' wire job job' next same goes calls calls' told told' supply n may q at at' placed o plays t =
     let r = goes calls calls' told told' q at at' placed plays.knows t in
-    record { longer = r.longer; places = r.places; tells = subst (λ w. GetTells new calls' wire r.places (sought w) job'.stage job'.done at') (sym same) r.tells; extends = r.extends; adds = r.adds }
+    record { longer = r.longer; places = r.places; tells = subst (λ w. GetTells new calls' wire r.places (sought w) job'.stage job'.bytes.items job'.done at') (sym same) r.tells; extends = r.extends; adds = r.adds }
 
 -- what is told where less is known is told where more is
 pub tells_narrow : (so so' : Supply → Task → Type 0) (p q : Player) → ((supply : Supply) (t : Task) → so' supply t → so supply t) → TellsAs so p q → TellsAs so' p q
@@ -197,7 +197,7 @@ first_tells supply t awaited calls wire (player.Insert job) is =
     subst (λ (s : InsertStage). InsertSaid awaited calls wire (record { opened = []; owns = []; now = [] }) (space job.ns.now) (sent_documents t) s) (sym is) (record { alone = (refl, refl); within = tt; tells = tt; sends = refl })
 first_tells supply t awaited calls wire (player.Follow job) is = subst (λ (s : Stage). Tells awaited calls wire (record { opened = []; owns = []; now = [] }) s (kept job) None) (sym is.0) ((refl, is.2.no_answer, refl), refl)
 first_tells supply t awaited calls wire (player.Put job) is = subst (λ (s : PutStage). PutTells awaited calls wire (record { opened = []; owns = []; now = [] }) supply (writes job.what) job.done s) (sym is.0) ((refl, refl, refl), is.1)
-first_tells supply t awaited calls wire (player.Get job) is = subst (λ (s : GetStage). GetTells awaited calls wire (record { opened = []; owns = []; now = [] }) (sought job.what) s job.done None) (sym is.0) ((refl, refl), refl)
+first_tells supply t awaited calls wire (player.Get job) is = subst (λ (s : GetStage). GetTells awaited calls wire (record { opened = []; owns = []; now = [] }) (sought job.what) s job.bytes.items job.done None) (sym is.0) ((refl, refl), refl)
 
 -- a follow goes on where it was after so many turns, unless it has ended
 number_at_stage : (calls : ℕ) (s : Stage) (k : Kept) (c : Came) (done : ℕ) (last : Bool) → c.answered ≡ length k.said → FollowAt calls s c done last → (number s k ≡ done) ⊎ (follow_ended s ≡ true)

@@ -23,6 +23,7 @@ pub mod GetCounting
 pub mod GetFetching
 pub mod GetStopping
 pub mod GetListed
+pub mod GetEnding
 pub mod OpenedCursors
 pub mod Queried
 pub mod GetRooms

@@ -1,5 +1,6 @@
 -- What the answers of puts and gets say of their files, in every legal history in which the log stands (GridFS specification, "File Upload" and "File Download").
-use Rattle.std.specs.Prelude.{◌≡◌, ◌≢◌, ◌⊎◌, ◌<◌, ◌≤◌, ℕ, suc, List, [], ◌∷◌, length, Some, Ok, slice_get, take}
+use Rattle.std.specs.Prelude.{◌≡◌, ◌⊎◌, ◌<◌, ◌≤◌, ◌++◌, ℕ, suc, List, [], ◌∷◌, length, Some, Ok, slice_get, take}
+use Rattle.std.specs.List.{concat}
 use Rattle.mg_bson.specs.Tree.{Fields, Tree}
 use Rattle.mg_link.specs.Commands.{as_database, asked, asks_query}
 use Rattle.mg_link.specs.Files.{Bucket, IsWhole, LeavesFile, chunks_space, file_of, files_space}
@@ -14,9 +15,7 @@ use Rattle.mg_link.specs.declared.error.GridFsErrorKind.TheVariants as grid
 use Rattle.mg_link.specs.declared.error.Malformed.TheVariants as malformed
 use Rattle.mg_records.specs.FileRecords.{FileRecord, chunk_count_of, file_record_of}
 use Rattle.mg_records.specs.Readings.{Breaks}
-use Rattle.mg_gridfs.specs.DownloadLaws.{HasRead}
-use Rattle.mg_gridfs.specs.Downloaded.{chunks_query, record_query}
-use Rattle.mg_gridfs.specs.Downloads.{ClientDownload, ended, spoiled}
+use Rattle.mg_gridfs.specs.Downloaded.{AreReceived, chunks_query, record_query}
 use Rattle.mg_players.specs.Causes.{Course, SentIn}
 use Rattle.mg_players.specs.Reading.{Differ}
 
@@ -65,35 +64,7 @@ abbrev pub GaveFile : Course → ℕ → List Call → Bucket → Tree → List 
 GaveFile c i calls b id bytes = (history : List Step) → IsLegal history → Stands calls history → (first last : ℕ) → IsFirstStepOf c i calls first → IsLastStepOf c i calls last → OthersLeaveFrom c i calls history b id first last
     → (whole : List ℕ) (size : ℕ) → IsWhole (state_of (take first history)) b id whole size → bytes ≡ whole
 
--- ---- bytes that were read
-
--- In each legal history in which the log stands, these bytes begin what chunks of the file gave, the first of those that stood, numbered and as long as the record
--- says that was read.
-pub record HasReadFront (calls : List Call) (b : Bucket) (id : Tree) (bytes : List ℕ) : Type 0 where
-  pub download : ClientDownload
-  pub unspoiled : download.doing ≢ spoiled
-  pub reads : (history : List Step) → IsLegal history → Stands calls history → HasRead history b id download bytes
-
--- There these bytes are those of all chunks that stood, which are as many as that record says.
-pub record HasReadAll (calls : List Call) (b : Bucket) (id : Tree) (bytes : List ℕ) : Type 0 where
-  pub download : ClientDownload
-  pub over : download.doing ≡ ended
-  pub none_ahead : download.ahead ≡ []
-  pub reads : (history : List Step) → IsLegal history → Stands calls history → HasRead history b id download bytes
-
--- ---- chunks that are blamed
-
--- an error says that a chunk is missing, has another length, or is none
-abbrev pub BlamesChunk : ErrorKind → Type 0
-BlamesChunk (kind.GridFs (grid.MissingChunk n)) = Unit {0}
-BlamesChunk (kind.GridFs (grid.WrongSizeChunk n actual expected)) = Unit {0}
-BlamesChunk (kind.InvalidResponse malformed.BadChunk) = Unit {0}
-BlamesChunk _ = ⊥
-
--- No file of this id was whole before the first step of job i, and touched by nobody up to its last one.
-abbrev pub NeverWhole : Course → ℕ → List Call → Bucket → Tree → Type 0
-NeverWhole c i calls b id = (history : List Step) → IsLegal history → Stands calls history → (first last : ℕ) → IsFirstStepOf c i calls first → IsLastStepOf c i calls last → OthersLeaveFrom c i calls history b id first last
-    → (whole : List ℕ) (size : ℕ) → IsWhole (state_of (take first history)) b id whole size → ⊥
+-- ---- the steps by which a job reads a file
 
 -- the step at this position asks for what a query finds
 pub record AsksAt (history : List Step) (position : ℕ) (q : Query) : Type 0 where
@@ -109,6 +80,64 @@ pub record FoundFirst (c : Course) (i : ℕ) (calls : List Call) (history : List
   pub first : Fields
   pub more : List Fields
   pub stood : (file_of (state_of (take (suc opened) history)) b id).records ≡ first ∷ more
+
+-- In this history job i listed the chunks of the file with this record by a step of its own behind this position; those that stood there are so.
+pub record ListedLater (c : Course) (i : ℕ) (calls : List Call) (history : List Step) (b : Bucket) (opened : ℕ) (file : FileRecord) (So : List Fields → Type 0) : Type 0 where
+  pub fetched : ℕ
+  pub later : opened < fetched
+  pub listed_so : IsStepOf c i calls fetched
+  pub lists : AsksAt history fetched (chunks_query (chunks_space b) file.id)
+  pub chunks_so : So (file_of (state_of (take (suc fetched) history)) b file.id).chunks
+
+-- ---- bytes that were read
+
+-- The first of the chunks that stood, each with its number, from 0 on, and as long as the record says, hold these bytes.
+pub record FirstHold (file : FileRecord) (bytes : List ℕ) (stood : List Fields) : Type 0 where
+  pub chunks : List (List ℕ)
+  pub documents : List Fields
+  pub left : List Fields
+  pub cut : stood ≡ documents ++ left
+  pub received : AreReceived file 0 chunks documents
+  pub together : concat chunks ≡ bytes
+
+-- All chunks that stood, each with its number, from 0 on, and as long as the record says, are as many as it says, and hold these bytes.
+pub record AllHold (file : FileRecord) (bytes : List ℕ) (stood : List Fields) : Type 0 where
+  pub chunks : List (List ℕ)
+  pub received : AreReceived file 0 chunks stood
+  pub counted : chunk_count_of file.length file.chunk_size ≡ Ok (length chunks)
+  pub together : concat chunks ≡ bytes
+
+-- In this history job i found a record by a step of its own, the first that stood, which reads as this one. By it the file has no bytes, and these are none; or a
+-- later step of job i listed the chunks of the file, and those that stood there hold these bytes.
+pub record ReadsFile (Hold : FileRecord → List ℕ → List Fields → Type 0) (c : Course) (i : ℕ) (calls : List Call) (history : List Step) (b : Bucket) (id : Tree) (file : FileRecord) (bytes : List ℕ) : Type 0 where
+  pub found : FoundFirst c i calls history b id
+  pub reads_as : file_record_of found.first ≡ Ok file
+  pub bytes_so : ((file.length ≡ 0) × (bytes ≡ [])) ⊎ ListedLater c i calls history b found.opened file (Hold file bytes)
+
+-- In each legal history in which the log stands job i read a file so, and these bytes begin what the first of its chunks hold.
+pub record HasReadFront (c : Course) (i : ℕ) (calls : List Call) (b : Bucket) (id : Tree) (bytes : List ℕ) : Type 0 where
+  pub file : FileRecord
+  pub more : List ℕ
+  pub reads : (history : List Step) → IsLegal history → Stands calls history → ReadsFile FirstHold c i calls history b id file (bytes ++ more)
+
+-- In each of them job i read a file so, and these bytes are just those that all of its chunks hold.
+pub record HasReadAll (c : Course) (i : ℕ) (calls : List Call) (b : Bucket) (id : Tree) (bytes : List ℕ) : Type 0 where
+  pub file : FileRecord
+  pub reads : (history : List Step) → IsLegal history → Stands calls history → ReadsFile AllHold c i calls history b id file bytes
+
+-- ---- chunks that are blamed
+
+-- an error says that a chunk is missing, has another length, or is none
+abbrev pub BlamesChunk : ErrorKind → Type 0
+BlamesChunk (kind.GridFs (grid.MissingChunk n)) = Unit {0}
+BlamesChunk (kind.GridFs (grid.WrongSizeChunk n actual expected)) = Unit {0}
+BlamesChunk (kind.InvalidResponse malformed.BadChunk) = Unit {0}
+BlamesChunk _ = ⊥
+
+-- No file of this id was whole before the first step of job i, and touched by nobody up to its last one.
+abbrev pub NeverWhole : Course → ℕ → List Call → Bucket → Tree → Type 0
+NeverWhole c i calls b id = (history : List Step) → IsLegal history → Stands calls history → (first last : ℕ) → IsFirstStepOf c i calls first → IsLastStepOf c i calls last → OthersLeaveFrom c i calls history b id first last
+    → (whole : List ℕ) (size : ℕ) → IsWhole (state_of (take first history)) b id whole size → ⊥
 
 -- In this history job i found a record by one step of its own, the first that stood, and listed the chunks of its file by a later one. Those that stood there are not
 -- what the record says, as the error tells.

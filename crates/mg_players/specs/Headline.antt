@@ -175,12 +175,12 @@ abbrev pub GaveFront : Course → ℕ → List Call → GetTask → List ℕ →
 GaveFront c i calls g bytes = (history : List Step) → IsLegal history → Stands calls history → (first last : ℕ) → IsFirstStepOf c i calls first → IsLastStepOf c i calls last → OthersLeaveFrom c i calls history g.at g.id first last
     → (whole : List ℕ) (size : ℕ) → IsWhole (state_of (take first history)) g.at g.id whole size → (left : List ℕ) × (whole ≡ bytes ++ left)
 
--- A get that ended well gave the bytes of its file, and one that is unfinished the first of them. Whatever file it was, they are those of all chunks that stood,
--- or begin what the first of them gave. One that failed blames a chunk only where those that stood are not what the record says, and so never where its file was
+-- A get that ended well gave the bytes of its file, and one that is unfinished the first of them. Whatever became of the file, they are those of all chunks that
+-- stood as its own step listed them, behind a step of its own that found their record, or begin what the first of them hold. One that failed blames a chunk only where those that stood are not what the record says, and so never where its file was
 -- whole; and it says that a document breaks its grammar only of a record or a chunk that stood.
 abbrev pub GetGave : {A : Type 0} → Course → ℕ → List Call → GetTask → List ℕ → Ended A → Type 0
-GetGave c i calls g bytes ended.Unfinished = GaveFront c i calls g bytes × ((bytes ≡ []) ⊎ HasReadFront calls g.at g.id bytes)
-GetGave c i calls g bytes (ended.Gave x) = GaveFile c i calls g.at g.id bytes × HasReadAll calls g.at g.id bytes
+GetGave c i calls g bytes ended.Unfinished = GaveFront c i calls g bytes × ((bytes ≡ []) ⊎ HasReadFront c i calls g.at g.id bytes)
+GetGave c i calls g bytes (ended.Gave x) = GaveFile c i calls g.at g.id bytes × HasReadAll c i calls g.at g.id bytes
 GetGave c i calls g bytes (ended.Failed e) = (BlamesChunk e.kind → NeverWhole c i calls g.at g.id × HasReadOther c i calls g.at g.id e) × (SaysBroken e.kind → HasFoundBroken c i calls g.at g.id e)
 
 -- A put that ended well left its file whole, and one that failed none of its chunks, unless its error may leave some. However it ended, the file is whole behind the

@@ -1,5 +1,5 @@
 -- Why a read of a get fails: by chunks that are not what their record says, and by what does not come where its own steps were answered at once.
-use Rattle.std.specs.Prelude.{◌≡◌, ◌≢◌, ◌<◌, ◌≤◌, ◌++◌, Contains, ℕ, suc, ℤ, pos, List, [], ◌∷◌, length, Some, None, Ok, Err, slice_get, take}
+use Rattle.std.specs.Prelude.{◌≡◌, ◌≢◌, ◌⊎◌, ◌<◌, ◌≤◌, ◌++◌, Contains, ℕ, suc, ℤ, pos, List, [], ◌∷◌, length, Option, Some, None, Ok, Err, slice_get, take}
 use Rattle.mg_bson.specs.Raw.{fields}
 use Rattle.mg_bson.specs.Tree.{Fields}
 use Rattle.mg_link.specs.Calls.{HeardBy, IsOwn, Past}
@@ -48,6 +48,18 @@ pub record ListsOther (calls : List Call) (at : Bucket) (f : FileRecord) (listed
   pub count : ℕ
   pub counted : chunk_count_of f.length f.chunk_size ≡ Ok count
   pub differ : (history : List Step) → IsLegal history → Stands calls history → (position : ℕ) × (call.position ≡ Some position) × Differ f count (file_of (state_of (take (suc position) history)) at f.id).chunks e
+
+-- ---- the list of a download that has ended
+
+-- the command at this place asks for what a query finds
+pub record AsksFor (calls : List Call) (place : ℕ) (q : Query) : Type 0 where
+  pub call : Call
+  pub there : slice_get calls place ≡ Some call
+  pub asks : asked call.command ≡ asks_query q
+
+-- Where a download that gave these bytes has ended, its file has none, and they are none; or the command at this place of the log asked for its chunks.
+abbrev pub EndsAsListed : List Call → Bucket → ClientDownload → List ℕ → Option ℕ → Type 0
+EndsAsListed calls b d bytes at = d.doing ≡ ended → ((d.file.length ≡ 0) × (bytes ≡ [])) ⊎ ((listed : ℕ) × (at ≡ Some listed) × AsksFor calls listed (chunks_query (chunks_space b) d.file.id))
 
 -- ---- steps that were answered at once
 

@@ -3,6 +3,7 @@ use Rattle.std.specs.Prelude.{◌≡◌, ◌↔◌, ◌⊎◌, ◌+◌, ◌≤�
 use Rattle.std.specs.List.{concat, sum_by}
 use Rattle.mg_bson.specs.Tree.{Fields, Tree}
 use Rattle.mg_link.specs.Calls.{Past, past_of, AddsOnly}
+use Rattle.mg_link.specs.Files.{chunks_space}
 use Rattle.mg_link.specs.Link.{Awaited, LogTold}
 use Rattle.mg_link.specs.Log.{Call}
 use Rattle.mg_link.specs.Namespace.{Space, space, target}
@@ -32,6 +33,8 @@ use Rattle.mg_players.specs.Buckets.{plain_bucket}
 use Rattle.mg_players.specs.Gets.{AsksPlainly, GetKnowsAt, GetTask, IsFindAt, IsGetCommand, IsOpeningFor, no_room, sought}
 use Rattle.mg_players.specs.Headline.{AllKnow, GetPlays, Plays, task_of}
 use Rattle.mg_cursor.specs.Client.{ClientCursor}
+use Rattle.mg_gridfs.specs.Downloaded.{KnowsDownload}
+use Rattle.mg_gridfs.specs.Downloads as downloads
 use Rattle.mg_gridfs.specs.Downloads.{ClientDownload, IsSoundDownload}
 use Rattle.mg_gridfs.specs.DownloadView.{IsDownload, download_of, finding_of}
 use Rattle.mg_gridfs.specs.Findings as findings
@@ -55,7 +58,7 @@ use Rattle.mg_players.specs.Plays.{Extends, Moves, MovesTo, Places, all_places}
 use Rattle.mg_players.specs.PutFailures.{AnswersPut, PutReads}
 use Rattle.mg_players.specs.PutSends.{DoingSent, PutEndsSent}
 use Rattle.mg_players.specs.Puts.{BegunFor, CutBy, DoingSupplied, PutTask, Supply, put_aim, put_bucket, taken_in, total, writes}
-use Rattle.mg_players.specs.Reading.{CountsIn, HeardEmpty, HeardHeld, ListsIts, ListsOther, ReadStops}
+use Rattle.mg_players.specs.Reading.{CountsIn, EndsAsListed, HeardEmpty, HeardHeld, ListsIts, ListsOther, ReadStops}
 use Rattle.mg_players.specs.Sends.{IsCommandOf, MaySend, PutFlies, SendsOnly}
 use Rattle.mg_ops.specs.Underway.{HasInserted}
 use Rattle.mg_script.specs.declared.outcome.Answer.{Answer}
@@ -243,8 +246,9 @@ abbrev pub FindsSoFar : List Call → GetTask → List ℕ → Looking → Type 
 FindsSoFar calls g places doing = FallsAt (IsFindAt g (found_in doing)) calls 5 places (finding_places doing)
 
 -- The opening sent at the places told of it: it heard this record, and listed the chunks of its file by the call at this place. What was sent behind it asks for
--- more of them, each by the cursor that the reply to the command before told.
+-- more of them, each by the cursor that the reply to the command before told. Its collections have names that may be.
 pub record TellsGetOpened (calls : List Call) (wire : ℤ) (q : Places) (g : GetTask) (f : FileRecord) (at : Option ℕ) : Type 0 where
+  pub named : IsNamed (chunks_space g.at)
   pub heard : HeardRecord (sent_at q.opened calls wire) (plain_bucket g.at) g.id (Some f)
   pub listed : (place : ℕ) → at ≡ Some place → IsOf q.opened place
   pub finds : FallsAt (IsFindAt g (Some f)) calls 5 q.opened 1
@@ -264,36 +268,46 @@ pub data TellsGetFails (calls : List Call) (wire : ℤ) (q : Places) (g : GetTas
       → cursor_in d.doing ≡ Some cursor → IsSoundDownload d → AsksPlainly d → suc (length q.owns) ≡ done
       → (listed : ℕ) → IsOf q.opened listed → HeardHeld (sent_at (all_places q) calls wire) g d.file cursor → ReadStops (sent_at (all_places q) calls wire) (HeardEmpty (sent_at (all_places q) calls wire) (sent_at q.now calls wire) g d.file) (ListsOther calls g.at d.file listed e) e → TellsGetFails calls wire q g done e
 
-abbrev pub TellsGetEnd : {A : Type 0} → List Call → ℤ → Places → GetTask → ℕ → Option ℕ → Ended A → Type 0
-TellsGetEnd calls wire q g done at ended.Unfinished = Unit {0}
-TellsGetEnd calls wire q g done at (ended.Gave x) = (0 < g.read) × (f : FileRecord) × TellsGetOpened calls wire q g f at × (suc (length q.owns) ≡ done)
-TellsGetEnd calls wire q g done at (ended.Failed e) = TellsGetFails calls wire q g done e × TellsAsked calls wire q g done
+-- All bytes of the file with this record were given, and these are they: its download has ended.
+pub record HasGivenAll (awaited : Awaited) (calls : List Call) (g : GetTask) (f : FileRecord) (bytes : List ℕ) (at : Option ℕ) : Type 0 where
+  pub download : ClientDownload
+  pub its : download.file ≡ f
+  pub over : download.doing ≡ downloads.ended
+  pub listed : ℕ
+  pub here : at ≡ Some listed
+  pub knows : KnowsDownload awaited calls g.at g.id download bytes listed
+  pub lists : EndsAsListed calls g.at download bytes at
 
--- what a get can tell at each stage, where the call at this place listed its chunks
-abbrev pub GetTells : Awaited → List Call → ℤ → Places → GetTask → GetStage → ℕ → Option ℕ → Type 0
-GetTells awaited calls wire q g gets.Unsent done at = TellsNoCall q × (q.now ≡ [])
-GetTells awaited calls wire q g (gets.Opens opening) done at = TellsNoCall q × IsOpeningFor g (finding_of opening) × IsSoundFinding (finding_of opening) × files.IsOpening awaited (sent_at q.now calls wire) (finding_of opening) × FindsSoFar calls g q.now (finding_of opening).doing × FindingLast awaited (λ (n : ℕ). IsOf q.now n) (finding_of opening).doing
-GetTells awaited calls wire q g (gets.Reads download room) done at = TellsGetOpened calls wire q g (download_of download).file at × (suc (length q.owns) ≡ done) × IsFetching awaited (sent_at q.now calls wire) (download_of download) × IsDownload download × AsksPlainly (download_of download) × ListsIts (sent_at (all_places q) calls wire) g (download_of download) × DownloadLast awaited calls (λ (n : ℕ). IsOf (all_places q) n) (download_of download)
-    × CountsIn awaited (sent_at (all_places q) calls wire) (sent_at q.now calls wire) g (download_of download).file (download_of download).doing
-GetTells awaited calls wire q g (gets.Ended end) done at = TellsGetEnd calls wire q g done at end
+abbrev pub TellsGetEnd : {A : Type 0} → Awaited → List Call → ℤ → Places → GetTask → List ℕ → ℕ → Option ℕ → Ended A → Type 0
+TellsGetEnd awaited calls wire q g bytes done at ended.Unfinished = Unit {0}
+TellsGetEnd awaited calls wire q g bytes done at (ended.Gave x) = (0 < g.read) × (f : FileRecord) × TellsGetOpened calls wire q g f at × (suc (length q.owns) ≡ done) × HasGivenAll awaited calls g f bytes at
+TellsGetEnd awaited calls wire q g bytes done at (ended.Failed e) = TellsGetFails calls wire q g done e × TellsAsked calls wire q g done
+
+-- what a get that gave these bytes can tell at each stage, where the call at this place listed its chunks
+abbrev pub GetTells : Awaited → List Call → ℤ → Places → GetTask → GetStage → List ℕ → ℕ → Option ℕ → Type 0
+GetTells awaited calls wire q g gets.Unsent bytes done at = TellsNoCall q × (q.now ≡ [])
+GetTells awaited calls wire q g (gets.Opens opening) bytes done at = TellsNoCall q × IsOpeningFor g (finding_of opening) × IsSoundFinding (finding_of opening) × files.IsOpening awaited (sent_at q.now calls wire) (finding_of opening) × FindsSoFar calls g q.now (finding_of opening).doing × FindingLast awaited (λ (n : ℕ). IsOf q.now n) (finding_of opening).doing
+GetTells awaited calls wire q g (gets.Reads download room) bytes done at = TellsGetOpened calls wire q g (download_of download).file at × (suc (length q.owns) ≡ done) × IsFetching awaited (sent_at q.now calls wire) (download_of download) × IsDownload download × AsksPlainly (download_of download) × ListsIts (sent_at (all_places q) calls wire) g (download_of download) × DownloadLast awaited calls (λ (n : ℕ). IsOf (all_places q) n) (download_of download)
+    × CountsIn awaited (sent_at (all_places q) calls wire) (sent_at q.now calls wire) g (download_of download).file (download_of download).doing × EndsAsListed calls g.at (download_of download) bytes at
+GetTells awaited calls wire q g (gets.Ended end) bytes done at = TellsGetEnd awaited calls wire q g bytes done at end
 
 -- what a get tells behind a turn, and whether it sent what it may
-pub record GetTell (awaited : Awaited) (begun calls : List Call) (wire : ℤ) (q : Places) (n : ℕ) (g : GetTask) (s : GetStage) (done : ℕ) (at : Option ℕ) : Type 0 where
+pub record GetTell (awaited : Awaited) (begun calls : List Call) (wire : ℤ) (q : Places) (n : ℕ) (g : GetTask) (s : GetStage) (bytes : List ℕ) (done : ℕ) (at : Option ℕ) : Type 0 where
   pub longer : length begun ≤ length calls
   pub places : Places
-  pub tells : GetTells awaited calls wire places g s done at
+  pub tells : GetTells awaited calls wire places g s bytes done at
   pub extends : Extends q places n done (length begun) (length calls)
   pub adds : AddsOnly (IsGetCommand g) begun calls
 
 -- A turn, or a part of one, led a get that knew what it should from one stage to another: it goes on telling.
-abbrev pub GetGoesOn : Awaited → Awaited → LogTold → LogTold → ℤ → GetTask → GetStage → List ℕ → ℕ → GetStage → ℕ → Moves → Type 0
-GetGoesOn old new log log' wire g s bytes done s' done' next = (calls calls' : List Call) → log ≡ Some calls → log' ≡ Some calls' → (q : Places) (at at' : Option ℕ) → MovesTo next calls calls' at at' → GetKnowsAt old calls g s bytes at → GetTells old calls wire q g s done at → GetTell new calls calls' wire q done g s' done' at'
+abbrev pub GetGoesOn : Awaited → Awaited → LogTold → LogTold → ℤ → GetTask → GetStage → List ℕ → ℕ → GetStage → List ℕ → ℕ → Moves → Type 0
+GetGoesOn old new log log' wire g s bytes done s' bytes' done' next = (calls calls' : List Call) → log ≡ Some calls → log' ≡ Some calls' → (q : Places) (at at' : Option ℕ) → MovesTo next calls calls' at at' → GetKnowsAt old calls g s bytes at → GetTells old calls wire q g s bytes done at → GetTell new calls calls' wire q done g s' bytes' done' at'
 
 -- A get took a turn, or a part of one: it goes on knowing and telling.
 pub record GetTurns (old new : Awaited) (log log' : LogTold) (wire : ℤ) (p p' : GetPlayer) : Type 0 where
   pub next : Moves
   pub turned : words.Turns GetPlays old new log log' p p' next
-  pub told : GetGoesOn old new log log' wire (sought p.what) p.stage p.bytes.items p.done p'.stage p'.done next
+  pub told : GetGoesOn old new log log' wire (sought p.what) p.stage p.bytes.items p.done p'.stage p'.bytes.items p'.done next
 
 -- ---- puts
 
@@ -353,7 +367,7 @@ FollowSays awaited calls wire q supply t job at = Tells awaited calls wire q job
 
 -- a get, whose chunks the call at this place listed
 abbrev pub GetSays : Awaited → List Call → ℤ → Places → Supply → Task → GetPlayer → Option ℕ → Type 0
-GetSays awaited calls wire q supply t job at = GetTells awaited calls wire q (sought job.what) job.stage job.done at
+GetSays awaited calls wire q supply t job at = GetTells awaited calls wire q (sought job.what) job.stage job.bytes.items job.done at
 
 abbrev pub PutSays : Awaited → List Call → ℤ → Places → Supply → Task → PutPlayer → Option ℕ → Type 0
 PutSays awaited calls wire q supply t job at = PutTells awaited calls wire q supply (writes job.what) job.done job.stage
