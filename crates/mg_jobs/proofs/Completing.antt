@@ -367,14 +367,14 @@ module _ (c : Course) (i : ℕ) (begun calls : List Call) (wire : ℤ) (whole : 
   one_well : (short : Type 0) (at after : ClientStream) (n : ℕ) (places : List ℕ) (answer : Answer) → AllSentIn c i n places → Called (sent_at places calls wire) None at after (poll_of answer) → StandsWell (IsWatched well.history) are_its at → StandsOwn (IsHeardBefore c i calls n) at → (at.doing ≡ streams.owes → short)
       → ((bytes : List ℕ) → HoldsFirst at bytes → n ≡ 1) → StandsOwn (IsHeardBefore c i calls (suc n)) after × EndedWell (IsWatched well.history) are_its (IsHeard c i calls) short (FindsNothing c i calls well.history n short) after answer
   one_well short at after n places answer sent called stands own owed first = (
-      stands_own (IsWatched well.history) are_its fits (IsHeardBefore c i calls (suc n)) short (sent_at places calls wire) (serves c i n begun calls wire places whole faultless well sent) (hears_now c i n begun calls wire places whole faultless well sent) at stands
-      (stands_further (IsHeardBefore c i calls n) (IsHeardBefore c i calls (suc n)) (heard_still c i calls n) at own) owed answer after called,
-      called_well (IsWatched well.history) are_its fits (IsHeard c i calls) short (sent_at places calls wire) (serves c i n begun calls wire places whole faultless well sent) (hears c i n begun calls wire places whole faultless well sent) at stands (own_ever c i calls n at own) owed (FindsNothing c i calls well.history n short)
-      (λ bytes held. takes_first (first bytes held))
-      (λ bytes is h. takes_again is h.heard.place (own_place c i n begun calls wire places whole faultless well sent h.heard.place (resuming_in at.aggregate wire h.session) (reply bytes) h.heard.heard) h.heard.heard.call h.heard.heard.there at.aggregate wire
-      (subst (λ (x : Option Session). fields h.heard.heard.call.command ≡ resuming_in at.aggregate wire x) h.plainly h.heard.heard.command_is))
-      (λ gone. is_over at.cursor.space (subst (λ (id : ℤ). IsOwnCursor (IsHeardBefore c i calls n) id at.cursor.space) gone own.cursor.own))
-      (λ bytes batch h there empty. finds_none (none_there c i n begun calls wire places whole faultless well sent at.cursor.id at.cursor.space at.cursor.manner h.session bytes batch stands.cursor.named stands.cursor.watches h.heard h.success there empty)) answer after called,
+    stands_own (IsWatched well.history) are_its fits (IsHeardBefore c i calls (suc n)) short (sent_at places calls wire) (serves c i n begun calls wire places whole faultless well sent) (hears_now c i n begun calls wire places whole faultless well sent) at stands
+        (stands_further (IsHeardBefore c i calls n) (IsHeardBefore c i calls (suc n)) (heard_still c i calls n) at own) owed answer after called,
+    called_well (IsWatched well.history) are_its fits (IsHeard c i calls) short (sent_at places calls wire) (serves c i n begun calls wire places whole faultless well sent) (hears c i n begun calls wire places whole faultless well sent) at stands (own_ever c i calls n at own) owed (FindsNothing c i calls well.history n short)
+        (λ bytes held. takes_first (first bytes held))
+        (λ bytes is h. takes_again is h.heard.place (own_place c i n begun calls wire places whole faultless well sent h.heard.place (resuming_in at.aggregate wire h.session) (reply bytes) h.heard.heard) h.heard.heard.call h.heard.heard.there at.aggregate wire
+        (subst (λ (x : Option Session). fields h.heard.heard.call.command ≡ resuming_in at.aggregate wire x) h.plainly h.heard.heard.command_is))
+        (λ gone. is_over at.cursor.space (subst (λ (id : ℤ). IsOwnCursor (IsHeardBefore c i calls n) id at.cursor.space) gone own.cursor.own))
+        (λ bytes batch h there empty. finds_none (none_there c i n begun calls wire places whole faultless well sent at.cursor.id at.cursor.space at.cursor.manner h.session bytes batch stands.cursor.named stands.cursor.watches h.heard h.success there empty)) answer after called,
   )
 
   calls_well : (short : Type 0) (n : ℕ) (at : ClientStream) (owns : List (List ℕ)) (said : List Answer) (last : ClientStream) → ((k : ℕ) (own : List ℕ) → slice_get owns k ≡ Some own → AllSentIn c i (n + k) own) → Answered calls wire at owns said last → StandsWell (IsWatched well.history) are_its at → StandsOwn (IsHeardBefore c i calls n) at → (at.doing ≡ streams.owes → short)

@@ -69,3 +69,10 @@ pub mod Polling
 pub mod Showing
 pub mod Small
 mod Stepping
+pub mod Unread
+pub mod WriteAsks
+pub mod KeptGrammar
+pub mod GetsRead
+pub mod ListedIndexes
+pub mod PutsKept
+pub mod Garbled

@@ -180,8 +180,7 @@ pub insert_told : (s : State) (id : ℤ) (command given : List ℕ) (at : Space)
 insert_told s id command given at ds names is read =
     let i = inserting at true 0 (length s.changes) (documents_of s at) ds in
     let by = inserting_is at true 0 (length s.changes) (documents_of s at) ds in
-    let reply_is : fields given ≡ inserted_reply i = read ∙ ap (λ (a : Reply). a.reply) (ap (answer_of s id) is ∙ inserts_so s id at ds names) in
-    (
+    let reply_is : fields given ≡ inserted_reply i = read ∙ ap (λ (a : Reply). a.reply) (ap (answer_of s id) is ∙ inserts_so s id at ds names) in (
       pos (length i.documents),
       failing true 0 (documents_of s at) ds,
       ap (λ (a : Asked). told a given) (asks_to_insert_plainly command at ds names.named is) ∙ told_reads (asks_insert at ds true) given (inserted_reply i) reply_is

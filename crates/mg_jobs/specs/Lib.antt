@@ -10,5 +10,6 @@ pub mod Program
 pub mod Own
 pub mod PutLimits
 pub mod Completing
+pub mod Grammar
 pub mod Fated
 pub mod Runners

@@ -17,6 +17,7 @@ use Rattle.mg_players.specs.Causes.{AllPollOwn, AllWaitAlone, OutcomeCaused, cou
 use Rattle.mg_jobs.specs.Completing.{AnswersWellIn, JobTaken, JobWell, JobWellIn, NoneRefused}
 use Rattle.mg_players.specs.Counts.{AreNoted, turns_pended}
 use Rattle.mg_jobs.specs.Fated.{AreItsSteps}
+use Rattle.mg_jobs.specs.Grammar.{NeverGarbled}
 use Rattle.mg_players.specs.Owned.{NamesNoOthers}
 use Rattle.mg_players.specs.Drawing.{as_sent, supplied, supply_of}
 use Rattle.mg_players.specs.Puts.{Supply}
@@ -99,6 +100,8 @@ script_supply script = supplied (script_ids script) script.moment.millis
 -- There each insert of fresh documents ends well, each follow that may begin is opened and ends well, and so ends each valid put of fresh documents, and each get of a
 -- file that is whole, whose collections have short names, whatever else the run's store did: it refused no step of such an insert, such a follow and such a get, but the
 -- creation of a collection that is there, and none of such a put but a getMore of a namespace that no server takes. No job names a cursor that another one opened.
+-- In no legal history in which the log stands does an answer of a follow, or the failure of an insert or a put, say that a reply is no document or breaks its grammar;
+-- nor does the failure of a get say that one is no document.
 pub record RunFollowed (run : Run) : Type 0 where
   pub calls : List Call
   pub log_is : run.logs.items ≡ calls ∷ []
@@ -115,6 +118,7 @@ pub record RunFollowed (run : Run) : Type 0 where
   pub own : NamesItsOwn calls
   pub caused : (i : ℕ) (t : Task) (r : Outcome) → slice_get (tasks run.script.jobs.items) i ≡ Some t → slice_get run.outcomes.items i ≡ Some r
       → OutcomeCaused (out_at calls) (course [] run.script.order.items turns.items) i calls run.script.wire (supply_of (script_supply run.script) (tasks run.script.jobs.items) run.script.order.items i) (as_sent (script_ids run.script) (tasks run.script.jobs.items) run.script.order.items i t) r
+  pub grammar : (i : ℕ) (r : Outcome) → slice_get run.outcomes.items i ≡ Some r → NeverGarbled calls r
   pub fates : List Fate
   pub fates_are : plans.fates fates ≡ plans.fates run.script.fates.items
   pub pended : List ℕ

@@ -15,6 +15,7 @@ ghost use Rattle.mg_script.specs.Plan.{Task, tasks};
 ghost use Rattle.mg_players.specs.Progress.{AllAt, AllPlayed, GoesBy, TurnsBy};
 ghost use Rattle.mg_players.specs.Causes.{AllCaused, AllPollOwn, AllWaitAlone, PollsOwn};
 ghost use Rattle.mg_jobs.specs.Completing.{AllWell};
+ghost use Rattle.mg_jobs.specs.Grammar.{AllNeverGarbled};
 ghost use Rattle.mg_players.specs.Owned.{AllNameOwn};
 ghost use Rattle.mg_players.specs.Sends.{AllSendOnly};
 ghost use Rattle.mg_script.specs.Script.{first_missing};
@@ -349,6 +350,9 @@ pub fn run_jobs<L: Link, I: IdSource>(
     // the ids that it drew, chunk by chunk, and the moment. A job that is unfinished, and whose last turn pended, waits for the
     // reply to a command of its own.
     ensures caused { IfOk result (λ p. AllCaused (supplied (I.ids ids.old) moment.millis) (L.awaited link.new) (L.log link.old) (L.log link.new) (L.wire link.old) (tasks jobs.now) order.now p.turns.items p.outcomes.items) }
+    // Over an honest link no answer of a follow and no failure of an insert or of a put says that a reply is no document or
+    // breaks its grammar, and no failure of a get that one is no document.
+    ensures grammar { IfOk result (λ p. AllNeverGarbled (L.log link.old) (L.log link.new) p.outcomes.items) }
     // Over a link that tells its log, each call that waits for its reply was sent in a turn of a job whose newest turn pended
     // by its note, and that job waits for no other, unless a ticket was out for the same call before the run.
     ensures waits_alone { IfOk result (λ p. AllWaitAlone (L.awaited link.old) (L.awaited link.new) (L.log link.old) order.now p.turns.items) }

@@ -21,6 +21,7 @@ use Rattle.mg_jobs.specs.Completing.{JobWell}
 use Rattle.mg_players.specs.Counts.{AreNoted, StartedBy}
 use Rattle.mg_jobs.specs.Fated.{AreItsSteps}
 use Rattle.mg_players.specs.Progress.{AllPlayed, IsPlayed, pends_last, turns_done}
+use Rattle.mg_jobs.specs.Grammar.{NeverGarbled}
 use Rattle.mg_players.specs.Blaming.{GetsBehind}
 use Rattle.mg_players.specs.Causes.{AllPollOwn, AllWaitAlone, Course, OutcomeCaused, course}
 use Rattle.mg_players.specs.Drawing.{as_sent, supplied, supply_of}
@@ -133,6 +134,9 @@ returns-clause-followed g c =
     subst (λ (l : List Call). GetsBehind (course [] script.order.items notes) l (tasks script.jobs.items) outcomes) (same_some behind.0 f.0 (sym behind.1 ∙ f.1))
     (subst (λ (js : List Job). GetsBehind (course [] script.order.items notes) behind.0 (tasks js) outcomes) jobs
     (subst (λ (o : List ℕ). GetsBehind (course [] o notes) behind.0 (tasks c.as_slice.result.now) outcomes) c.as_slice-2.ensures.value behind.2)) in
+    let grammar_is : (i : ℕ) (r : Outcome) → slice_get c.in_ok-played.played.outcomes.items i ≡ Some r → NeverGarbled f.0 r = λ i r hr.
+    let kept = c.in_ok-played.ensures.grammar [] begins in
+    subst (λ (l : List Call). NeverGarbled l r) (same_some kept.0 f.0 (sym kept.1 ∙ f.1)) (kept.2 i r hr) in
     let outcomes_is : length c.in_ok-played.played.outcomes.items ≡ length (tasks script.jobs.items) = c.in_ok-played.ensures.outcomes ∙ ap length jobs ∙ sym (tasks_counted script.jobs.items) in
     record {
       calls = f.0;
@@ -152,6 +156,7 @@ returns-clause-followed g c =
       turns = c.in_ok-played.played.turns;
       turns_are = c.in_ok-turns.ensures.items;
       caused = caused_is;
+      grammar = grammar_is;
       fates = fates;
       fates_are = c.requires.fates;
       pended = link.pended;

@@ -8,6 +8,7 @@ use Rattle.mg_players.proofs.Knowing.{knowing_first}
 use Rattle.mg_players.proofs.Advancing.{rows_so}
 use Rattle.mg_jobs.proofs.Blaming.{behind_so}
 use Rattle.mg_jobs.proofs.Completing.{well_so}
+use Rattle.mg_jobs.proofs.Garbled.{kept_so}
 use Rattle.mg_players.specs.Drawing.{supplied}
 use Rattle.mg_players.proofs.Drawing.{drawn_first, drawn_so}
 use Rattle.mg_jobs.proofs.Waiting.{wait_so}
@@ -125,3 +126,8 @@ returns-clause-behind g c =
 
 pub returns-clause-complete : goal.returns-clause-complete
 returns-clause-complete g c = λ prompt. well_so (supplied (g.I.IdSource.ids c.args.ids.now) c.args.moment.millis) _ _ _ _ (tasks c.args.jobs.now) c.args.order.now c.into_played.result (c.in_ok-play.ensures.lossless prompt) (returns-clause-caused g c) (returns-clause-rows g c) (returns-clause-filed g c) (returns-clause-sends g c)
+
+pub returns-clause-grammar : goal.returns-clause-grammar
+returns-clause-grammar g c =
+    kept_so (supplied (g.I.IdSource.ids c.args.ids.now) c.args.moment.millis) _ _ _ _ (tasks c.args.jobs.now) c.args.order.now c.into_played.result (length c.play.new.runner.players.items)
+    (c.play.ensures.jobs ∙ c.in_ok-runner.ensures.jobs ∙ sym (length-map c.args.jobs.now task)) c.into_played.ensures.outcomes (returns-clause-caused g c) (returns-clause-rows g c)
