@@ -2,10 +2,10 @@
 use Rattle.std.proofs.Common.{◌≡◌, ℕ, List, [], ◌∷◌, ◌++◌, Option, Some, None, Ok, refl, sym, ap, ◌∙◌, subst, append-nil, append_assoc}
 use Rattle.mg_bson.specs.Tree.{Fields}
 use Rattle.mg_bson.specs.Raw.{fields}
-use Rattle.mg_link.specs.Follow.{Moved}
+use Rattle.mg_server.specs.Follow.{Moved}
 use Rattle.mg_link.specs.Link.{Awaited, LogTold}
-use Rattle.mg_link.proofs.Answering.{follows_on, knows_new}
-use Rattle.mg_link.proofs.Moves.{moved, stayed}
+use Rattle.mg_server.proofs.Answering.{follows_on, knows_new}
+use Rattle.mg_server.proofs.Moves.{moved, stayed}
 use Rattle.mg_ops.specs.declared.change_stream.WatchArgs.{WatchArgs}
 use Rattle.mg_change.specs.ClientStreams.{Asks, ClientStream, IsBetween, stream_token}
 use Rattle.mg_change.specs.Following.{follow_of, idle_by, not_open}

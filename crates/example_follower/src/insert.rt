@@ -3,7 +3,8 @@ ghost use Rattle.std.specs.Prelude.{◌≡◌};
 
 use crate::follow::POLLS;
 use mg_bson::{Bson, Document};
-use mg_link::{Action, Error, ErrorKind, Exec, Link, Namespace, Step, plain};
+use mg_exec::Exec;
+use mg_link::{Action, Error, ErrorKind, Link, Namespace, Step, plain};
 use mg_ops::{Insert, Operation, encode};
 use mg_options::InsertManyOptions;
 use std::alloc::Global;

@@ -12,7 +12,8 @@ mod watches;
 
 use layers::{Subject, differences, json_value};
 use mg_bson::{Bson, Document};
-use mg_link::{Action, ClientSession, Error, ErrorKind, Exec, Step, plain};
+use mg_exec::Exec;
+use mg_link::{Action, ClientSession, Error, ErrorKind, Step, plain};
 use mg_ops::{Operation, encode};
 use mg_store::{MemLink, Store};
 use std::alloc::Global;

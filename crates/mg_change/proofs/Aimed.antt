@@ -1,8 +1,8 @@
 -- What an aggregate asks for whose target, filter and start are found.
 use Rattle.std.proofs.Common.{◌≡◌, Some, refl}
-use Rattle.mg_link.specs.Commands.{filter_stages}
+use Rattle.mg_server.specs.Commands.{filter_stages}
 use Rattle.mg_link.specs.Namespace.{target}
-use Rattle.mg_link.specs.State.{Start, Watch}
+use Rattle.mg_server.specs.State.{Start, Watch}
 use Rattle.mg_options.specs.declared.change_stream.ChangeStreamOptions.{ChangeStreamOptions}
 use Rattle.mg_ops.specs.Aims.{aim, aim_of}
 use Rattle.mg_ops.specs.Naming.{start_in}

@@ -1,10 +1,10 @@
 -- What a call, an opening or a closing that holds a ticket waits for.
 use Rattle.std.proofs.Common.{◌≡◌, ◌≢◌, ℕ, pos, Bool, false, Option, None, Some, subst}
 use Rattle.std.specs.Prelude.{IsSome}
-use Rattle.mg_link.specs.Calls.{IsAwaited, Past}
+use Rattle.mg_server.specs.Calls.{IsAwaited, Past}
 use Rattle.mg_link.specs.Exec.{Sending}
 use Rattle.mg_link.specs.Link.{Awaited}
-use Rattle.mg_link.proofs.Calls.{HoldsOwn, awaited_by, none_held, own_by}
+use Rattle.mg_server.proofs.Calls.{HoldsOwn, awaited_by, none_held, own_by}
 use Rattle.mg_ops.specs.declared.change_stream.WatchArgs.{WatchArgs}
 use Rattle.mg_cursor.specs.Client.{ClientCursor, asks, at_rest, get_more, holds, kill, rests}
 use Rattle.mg_cursor.specs.Client as cursors

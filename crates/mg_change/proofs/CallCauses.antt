@@ -1,11 +1,11 @@
 -- What the polls of a call are caused by: its steps, joined.
 use Rattle.std.proofs.Common.{◌≡◌, ◌≤◌, ℕ, zero, suc, ℤ, Bool, true, false, List, length, Option, Some, None, refl, sym, ap, ◌∙◌, subst, inl, inr, arith}
-use Rattle.mg_link.specs.Calls.{Past, past_of}
+use Rattle.mg_server.specs.Calls.{Past, past_of}
 use Rattle.mg_link.specs.Link.{Awaited, LogTold}
 use Rattle.mg_link.specs.Log.{Call}
 use Rattle.mg_link.specs.Session.{Session}
 use Rattle.mg_link.specs.declared.error.Error.{Error}
-use Rattle.mg_link.proofs.Calls.{keeps_on}
+use Rattle.mg_server.proofs.Calls.{keeps_on}
 use Rattle.mg_cursor.specs.Client.{asks, holds, rests}
 use Rattle.mg_cursor.specs.Client as cursors
 use Rattle.mg_cursor.specs.Seeking.{session_after}

@@ -2,17 +2,17 @@
 use Rattle.std.proofs.Common.{◌≡◌, ◌+◌, ◌++◌, ℕ, zero, suc, ℤ, pos, Bool, true, false, List, [], Option, Some, None, refl, sym, ap, ◌∙◌, subst, inl, inr, arith, option_map}
 use Rattle.mg_bson.specs.Tree.{Fields}
 use Rattle.mg_link.specs.Exec.{Sending}
-use Rattle.mg_link.specs.Follow.{Moved}
+use Rattle.mg_server.specs.Follow.{Moved}
 use Rattle.mg_link.specs.Link.{Awaited, LogTold}
 use Rattle.mg_link.specs.Moment.{Ending, failed, finished, pending}
 use Rattle.mg_link.specs.Session.{Session, after_command}
-use Rattle.mg_link.specs.State.{Start, Watch}
+use Rattle.mg_server.specs.State.{Start, Watch}
 use Rattle.mg_link.specs.declared.action.Step.{Step}
 use Rattle.mg_link.specs.declared.action.Step.TheVariants as step
 use Rattle.mg_link.specs.declared.error.Error.{Error}
 use Rattle.mg_link.specs.declared.pinned.PinnedConnection.TheVariants as connection
 use Rattle.mg_link.specs.Pinned.{is_invalid}
-use Rattle.mg_link.proofs.Moves.{moved}
+use Rattle.mg_server.proofs.Moves.{moved}
 use Rattle.mg_cursor.specs.Client.{ClientCursor, IsOver, PlainIf, at_rest, rests}
 use Rattle.mg_cursor.specs.Client as cursors
 use Rattle.mg_cursor.specs.Closing.{ClosingCursor, IsNotAsking}

@@ -1,7 +1,7 @@
 -- What the steps of a change stream are caused by.
 use Rattle.std.proofs.Common.{◌≡◌, ◌≢◌, ◌⊎◌, ◌≤◌, ℕ, ℤ, pos, Bool, true, false, List, [], length, Option, Some, None, refl, sym, ap, ◌∙◌, subst, inl, inr}
 use Rattle.mg_bson.specs.Raw.{fields}
-use Rattle.mg_link.specs.Calls.{Came, Flies, Grows, HeardLast, Keeps, NoneBroken, Past, RequestFails, out_of_memory, past_of, was_broken}
+use Rattle.mg_server.specs.Calls.{Came, Flies, Grows, HeardLast, Keeps, NoneBroken, Past, RequestFails, out_of_memory, past_of, was_broken}
 use Rattle.mg_link.specs.Errors.{plain}
 use Rattle.mg_link.specs.Exec.{IsSuccess, Runs, Sending, Stage}
 use Rattle.mg_link.specs.Link.{Awaited, SendsNothing, LogTold}
@@ -14,10 +14,10 @@ use Rattle.mg_link.specs.declared.error.Error.{Error}
 use Rattle.mg_link.specs.declared.error.ErrorKind.TheVariants as kind
 use Rattle.mg_link.specs.Pinned.{is_invalid}
 use Rattle.mg_link.specs.declared.pinned.PinnedConnection.TheVariants as connection
-use Rattle.mg_link.proofs.Calls.{request_ran, same_keeps, success_ran}
-use Rattle.mg_link.proofs.Execs.{runs_of}
-use Rattle.mg_link.proofs.Owners.{same_some}
-use Rattle.mg_link.proofs.Pasts.{fails_anyhow, heard_by}
+use Rattle.mg_server.proofs.Calls.{request_ran, same_keeps, success_ran}
+use Rattle.mg_exec.proofs.Execs.{runs_of}
+use Rattle.mg_server.proofs.Owners.{same_some}
+use Rattle.mg_server.proofs.Pasts.{fails_anyhow, heard_by}
 use Rattle.mg_ops.specs.Failing.{FailsBy}
 use Rattle.mg_ops.specs.declared.aggregate.ChangeStreamAggregate.{ChangeStreamAggregate}
 use Rattle.mg_cursor.specs.Batches.{BreaksBatch, bad_item, no_batch}

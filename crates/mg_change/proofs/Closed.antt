@@ -4,21 +4,21 @@ use Rattle.std.specs.Prelude.{unwrap_or, if◌then◌else◌}
 use Rattle.std.specs.Ordering.{int_eq}
 use Rattle.mg_bson.specs.Raw.{fields}
 use Rattle.mg_bson.specs.Tree.{Fields, Tree}
-use Rattle.mg_link.specs.Commands.{asks_kill, asked, documents_in}
+use Rattle.mg_server.specs.Commands.{asks_kill, asked, documents_in}
 use Rattle.mg_link.specs.Exec.{Attempt, Runs, Sending, Stage, Tries, first, second, unsent}
-use Rattle.mg_link.specs.Follow.{Follow, IsOpen, Moved, ResumesAt, owing, owner_of, resting, resuming}
+use Rattle.mg_server.specs.Follow.{Follow, IsOpen, Moved, ResumesAt, owing, owner_of, resting, resuming}
 use Rattle.mg_link.specs.Link.{Awaited, SendsNothing, LogTold}
-use Rattle.mg_link.specs.Owner.{IsOf, NamesOwn}
-use Rattle.mg_link.specs.State.{Start, Watch}
+use Rattle.mg_server.specs.Owner.{IsOf, NamesOwn}
+use Rattle.mg_server.specs.State.{Start, Watch}
 use Rattle.mg_link.specs.declared.action.Step.{Step}
 use Rattle.mg_link.specs.declared.action.Step.TheVariants as step
 use Rattle.mg_link.specs.declared.error.Error.{Error}
-use Rattle.mg_link.proofs.Asking.{asks_at}
-use Rattle.mg_link.proofs.Killing.{close_begun, close_gone_on}
-use Rattle.mg_link.specs.Moves.{owed, given_with, at_stage, resumed_with}
-use Rattle.mg_link.proofs.Moves.{moved, stayed}
-use Rattle.mg_link.proofs.Moving.{IdsFrom, known, moved_here, same_opened}
-use Rattle.mg_link.proofs.Resumes.{kill_own}
+use Rattle.mg_server.proofs.Asking.{asks_at}
+use Rattle.mg_server.proofs.Killing.{close_begun, close_gone_on}
+use Rattle.mg_server.specs.Moves.{owed, given_with, at_stage, resumed_with}
+use Rattle.mg_server.proofs.Moves.{moved, stayed}
+use Rattle.mg_server.proofs.Moving.{IdsFrom, known, moved_here, same_opened}
+use Rattle.mg_server.proofs.Resumes.{kill_own}
 use Rattle.mg_ops.proofs.Asking.{asks_for_more, asks_to_kill_plainly}
 use Rattle.mg_ops.proofs.Reading.{batch_as}
 use Rattle.mg_cursor.specs.Client.{ClientCursor, IsAsking, asks, at_rest, behind_failure, behind_reply, holds, kill, rests}

@@ -2,7 +2,7 @@
 use Rattle.std.proofs.Common.{◌≡◌, ◌≢◌, ◌⊎◌, ◌≤◌, ◌++◌, ℕ, ℤ, pos, false, List, [], length, Option, Some, None, refl, sym, ap, ◌∙◌, subst, inl, inr, arith}
 use Rattle.mg_bson.specs.Raw.{fields}
 use Rattle.mg_bson.specs.Tree.{Fields}
-use Rattle.mg_link.specs.Calls.{Came, Flies, Grows, HeardLast, Keeps, NoneBroken, Past, RequestFails, past_of, was_broken}
+use Rattle.mg_server.specs.Calls.{Came, Flies, Grows, HeardLast, Keeps, NoneBroken, Past, RequestFails, past_of, was_broken}
 use Rattle.mg_link.specs.Exec.{IsSuccess, Runs, Sending, Stage}
 use Rattle.mg_link.specs.Link.{Awaited, SendsNothing, LogTold}
 use Rattle.mg_link.specs.Log.{Call, reply}
@@ -12,8 +12,8 @@ use Rattle.mg_link.specs.declared.action.Step.{Step}
 use Rattle.mg_link.specs.declared.action.Step.TheVariants as step
 use Rattle.mg_link.specs.declared.error.Error.{Error}
 use Rattle.mg_link.specs.declared.error.ErrorKind.TheVariants as kind
-use Rattle.mg_link.proofs.Calls.{keeps_longer, keeps_on, request_ran, same_keeps, success_ran}
-use Rattle.mg_link.proofs.Pasts.{fails_anyhow, flies_grows, heard_by, heard_reply, last_reply, request_fails_grows}
+use Rattle.mg_server.proofs.Calls.{keeps_longer, keeps_on, request_ran, same_keeps, success_ran}
+use Rattle.mg_server.proofs.Pasts.{fails_anyhow, flies_grows, heard_by, heard_reply, last_reply, request_fails_grows}
 use Rattle.mg_ops.specs.Commands.{kill_command}
 use Rattle.mg_ops.specs.Failing.{CannotBeSent}
 use Rattle.mg_cursor.specs.Causes.{FliesMore, HeardMore, MoreFails, TellsNoCursor}

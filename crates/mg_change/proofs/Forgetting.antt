@@ -1,8 +1,8 @@
 -- The moves of a stream that forgets what it had in hand.
 use Rattle.std.proofs.Common.{◌≡◌, [], None, refl}
-use Rattle.mg_link.specs.Follow.{resting, owing, Follow, IsOpen, Moved}
+use Rattle.mg_server.specs.Follow.{resting, owing, Follow, IsOpen, Moved}
 use Rattle.mg_link.specs.Link.{LogTold}
-use Rattle.mg_link.proofs.Moving.{known, known_as, hand_as, moved_here, same_opened}
+use Rattle.mg_server.proofs.Moving.{known, known_as, hand_as, moved_here, same_opened}
 
 -- nothing is in hand
 abbrev pub owing_only : Follow → Follow

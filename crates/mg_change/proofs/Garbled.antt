@@ -2,24 +2,24 @@
 use Rattle.std.proofs.Common.{◌≡◌, ℕ, ℤ, Bool, true, false, List, [], ◌∷◌, ◌++◌, length, Option, Some, None, refl, sym, ap, ◌∙◌, subst, inl, inr}
 use Rattle.std.specs.Prelude.{slice_get}
 use Rattle.mg_bson.specs.Tree.{Tree, Fields}
-use Rattle.mg_link.specs.Commands.{asks_watch, Told, garbled, Batch, told, asked}
-use Rattle.mg_link.specs.History.{Step, IsLegal}
+use Rattle.mg_server.specs.Commands.{asks_watch, Told, garbled, Batch, told, asked}
+use Rattle.mg_server.specs.History.{Step, IsLegal}
 use Rattle.mg_link.specs.declared.action.Step.{Step as Polled}
 use Rattle.mg_link.specs.declared.action.Step.TheVariants as step
 use Rattle.mg_link.specs.Exec.{Stage, unsent, first, second, Sending, Attempt, not_sent, waits, answered, Begins, GoesOn, Tries, IsSuccess, is_repeated, holding as held_at, Once, Runs}
 use Rattle.mg_link.specs.Log.{Sight, waiting, reply, Call, see}
 use Rattle.mg_link.specs.Link as link
 use Rattle.mg_link.specs.Link.{Awaited, Adds, Sees}
-use Rattle.mg_link.specs.Standing.{Stands}
-use Rattle.mg_link.specs.Follow.{starting, holding, Follow, AfterStart, KnowsStarting, Moved}
-use Rattle.mg_link.proofs.Attempting.{see_last}
+use Rattle.mg_server.specs.Standing.{Stands}
+use Rattle.mg_server.specs.Follow.{starting, holding, Follow, AfterStart, KnowsStarting, Moved}
+use Rattle.mg_exec.proofs.Attempting.{see_last}
 use Rattle.mg_link.proofs.Places.{get_seam}
-use Rattle.mg_link.proofs.Owners.{same_some, see_here, stands_unseen}
-use Rattle.mg_link.proofs.Heard.{heard_at, told_heard}
-use Rattle.mg_link.proofs.Moving.{known_as, moved_seen}
-use Rattle.mg_link.proofs.Moves.{stayed, moved}
-use Rattle.mg_link.specs.Moves.{at_stage}
-use Rattle.mg_link.proofs.Retries.{Request, tried, next_place, next_is}
+use Rattle.mg_server.proofs.Owners.{same_some, see_here, stands_unseen}
+use Rattle.mg_server.proofs.Heard.{heard_at, told_heard}
+use Rattle.mg_server.proofs.Moving.{known_as, moved_seen}
+use Rattle.mg_server.proofs.Moves.{stayed, moved}
+use Rattle.mg_server.specs.Moves.{at_stage}
+use Rattle.mg_server.proofs.Retries.{Request, tried, next_place, next_is}
 use Rattle.mg_link.proofs.Waits.{never_again}
 
 -- ---- the stage of a request that waits

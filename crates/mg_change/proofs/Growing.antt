@@ -1,10 +1,10 @@
 -- What a call of a stream had come to it has come to still at a later time.
 use Rattle.std.proofs.Common.{ℕ, ℤ, Bool, true, false, List, ◌∷◌, Option, sym, subst, inl, inr}
-use Rattle.mg_link.specs.Calls.{Grows, HeardLast, NoneBroken, Past, RequestFails}
+use Rattle.mg_server.specs.Calls.{Grows, HeardLast, NoneBroken, Past, RequestFails}
 use Rattle.mg_link.specs.Log.{reply}
 use Rattle.mg_link.specs.Session.{Session}
 use Rattle.mg_link.specs.declared.error.Error.{Error}
-use Rattle.mg_link.proofs.Pasts.{heard_reply, last_reply, request_fails_grows}
+use Rattle.mg_server.proofs.Pasts.{heard_reply, last_reply, request_fails_grows}
 use Rattle.mg_cursor.specs.Causes.{HeardMore, MoreFails, TellsNoCursor}
 use Rattle.mg_cursor.specs.Client.{ClientCursor, at_rest, get_more, kill}
 use Rattle.mg_cursor.specs.Closing.{ClosingCursor, ClosingDone, ClosingFails, killed, not_killed, not_needed, out_of_memory}

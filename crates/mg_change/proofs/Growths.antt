@@ -3,9 +3,9 @@ use Rattle.std.proofs.Common.{◌≡◌, ℕ, List, [], ◌∷◌, ◌++◌, Opt
 use Rattle.mg_link.specs.Exec.{Stage, unsent, first, second, Attempt, not_sent, waits, answered, Begins, GoesOn, Tries}
 use Rattle.mg_link.specs.Log.{Sight, waiting, Call, see}
 use Rattle.mg_link.specs.Link.{Awaited, LogTold, Adds, Sees}
-use Rattle.mg_link.specs.Owner.{Onward, Passes, nobody}
-use Rattle.mg_link.proofs.Apart.{apart_nobody, holds_nobody, nobody_named, onward_foreign, onward_refl, onward_seen}
-use Rattle.mg_link.proofs.SelfMade.{made_nowhere}
+use Rattle.mg_server.specs.Owner.{Onward, Passes, nobody}
+use Rattle.mg_server.proofs.Apart.{apart_nobody, holds_nobody, nobody_named, onward_foreign, onward_refl, onward_seen}
+use Rattle.mg_server.proofs.SelfMade.{made_nowhere}
 use Rattle.mg_change.specs.Growths.{GoesOnward, StandsNowhere}
 
 pub grows_same : (log log' : LogTold) → log' ≡ log → GoesOnward log log'

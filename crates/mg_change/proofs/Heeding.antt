@@ -5,10 +5,10 @@ use Rattle.mg_bson.specs.Reading.{doc}
 use Rattle.mg_bson.specs.Raw.{fields}
 use Rattle.mg_bson.specs.Tree.{Fields, no_fields}
 use Rattle.mg_link.specs.Namespace.{Space}
-use Rattle.mg_link.specs.State.{Start}
-use Rattle.mg_link.specs.Commands.{Batch, asks_kill, asks_more, asks_watch, asked, batch_of, documents_in}
+use Rattle.mg_server.specs.State.{Start}
+use Rattle.mg_server.specs.Commands.{Batch, asks_kill, asks_more, asks_watch, asked, batch_of, documents_in}
 use Rattle.mg_link.specs.Exec.{Stage, unsent, first, second, Sending, Attempt, not_sent, waits, answered, Begins, FailsAs, AttemptFails, FailsByReply, AttemptGives, IsSuccess, Runs, Tries, holding as held_at, is_repeated, ticket_at}
-use Rattle.mg_link.specs.Follow.{Follow, holding, resting, resuming, IsOpen, Moved, Reads, ResumesAt}
+use Rattle.mg_server.specs.Follow.{Follow, holding, resting, resuming, IsOpen, Moved, Reads, ResumesAt}
 use Rattle.mg_link.specs.Link.{Awaited, LogTold, Sees}
 use Rattle.mg_link.specs.Log.{waiting, reply, fault, memory}
 use Rattle.mg_link.specs.Reply.{verdict_of}
@@ -19,15 +19,15 @@ use Rattle.mg_link.specs.declared.error.Error.{Error}
 use Rattle.mg_link.specs.declared.error.ErrorKind.TheVariants as kind
 use Rattle.mg_link.specs.declared.reply.Verdict.{Verdict}
 use Rattle.mg_link.specs.declared.reply.Verdict.TheVariants as verdict
-use Rattle.mg_link.proofs.Asking.{MoreAttempted, asks_at, more_ran}
-use Rattle.mg_link.proofs.Calls.{success_ran}
-use Rattle.mg_link.proofs.Heard.{more_spoiled, no_batch_refused, watch_spoiled}
-use Rattle.mg_link.specs.Moves.{owed, given_with, rested, MoreAnswered, at_stage, resumed_with}
-use Rattle.mg_link.proofs.Moves.{moved, gave_up}
-use Rattle.mg_link.proofs.Killing.{kill_begun, kill_gone_on}
-use Rattle.mg_link.proofs.Resumes.{let_go}
-use Rattle.mg_link.proofs.Retries.{Attempted, Request, at_once, next_is, next_place, place_of, ran, resume_request, tried}
-use Rattle.mg_link.proofs.Spoiled.{resume_garbled}
+use Rattle.mg_server.proofs.Asking.{MoreAttempted, asks_at, more_ran}
+use Rattle.mg_server.proofs.Calls.{success_ran}
+use Rattle.mg_server.proofs.Heard.{more_spoiled, no_batch_refused, watch_spoiled}
+use Rattle.mg_server.specs.Moves.{owed, given_with, rested, MoreAnswered, at_stage, resumed_with}
+use Rattle.mg_server.proofs.Moves.{moved, gave_up}
+use Rattle.mg_server.proofs.Killing.{kill_begun, kill_gone_on}
+use Rattle.mg_server.proofs.Resumes.{let_go}
+use Rattle.mg_server.proofs.Retries.{Attempted, Request, at_once, next_is, next_place, place_of, ran, resume_request, tried}
+use Rattle.mg_server.proofs.Spoiled.{resume_garbled}
 use Rattle.mg_link.proofs.Waits.{never_again}
 use Rattle.mg_ops.specs.Cursors.{Cursor, cursor_of}
 use Rattle.mg_ops.proofs.Reading.{batch_as, batch_read}

@@ -16,8 +16,8 @@ use Rattle.mg_link.specs.declared.error.ErrorKind.{ErrorKind}
 use Rattle.mg_link.specs.declared.error.ErrorKind.TheVariants as kind
 use Rattle.mg_link.specs.declared.pinned.PinnedConnection.{PinnedConnection}
 use Rattle.mg_link.specs.declared.pinned.PinnedConnection.TheVariants as connection
-use Rattle.mg_link.specs.Step.{ends_cursor}
-use Rattle.mg_link.proofs.Execs.{runs_of}
+use Rattle.mg_server.specs.Step.{ends_cursor}
+use Rattle.mg_exec.proofs.Execs.{runs_of}
 use Rattle.mg_options.specs.declared.change_stream.ChangeStreamOptions.{ChangeStreamOptions}
 use Rattle.mg_ops.specs.Cursors.{Cursor}
 use Rattle.mg_ops.specs.Naming.{IsNamed}

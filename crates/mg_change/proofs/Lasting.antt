@@ -1,6 +1,6 @@
 -- What a call of a stream leaves as it is, and how far one has come as it begins.
 use Rattle.std.proofs.Common.{◌≡◌, ℕ, zero, suc, ℤ, Bool, Option, Some, None, refl, ap, ◌∙◌, inl, inr}
-use Rattle.mg_link.specs.Calls.{Past}
+use Rattle.mg_server.specs.Calls.{Past}
 use Rattle.mg_link.specs.Link.{Awaited, LogTold}
 use Rattle.mg_link.specs.Moment.{Ending, pending, finished, failed}
 use Rattle.mg_link.specs.Session.{Session}

@@ -1,22 +1,22 @@
 -- What a call that opens a stream comes to, poll by poll.
 use Rattle.std.proofs.Common.{◌≡◌, ◌⊎◌, ◌+◌, ◌-◌, ◌≤◌, ◌<◌, ℕ, zero, suc, ℤ, Bool, true, false, List, [], ◌∷◌, length, Option, Some, None, refl, sym, ap, ◌∙◌, subst, inl, inr, arith}
 use Rattle.mg_link.specs.Acts.{FailsByFault, PendsBy, Tickets, ticket_after}
-use Rattle.mg_link.specs.Calls.{Grows, Past, past_of}
+use Rattle.mg_server.specs.Calls.{Grows, Past, past_of}
 use Rattle.mg_link.specs.Causes.{Rose, RoseJust}
 use Rattle.mg_link.specs.Exec.{Sending}
-use Rattle.mg_link.specs.Follow.{Follow, Moved}
+use Rattle.mg_server.specs.Follow.{Follow, Moved}
 use Rattle.mg_link.specs.Link.{Awaited, Later, LogTold}
 use Rattle.mg_link.specs.Log.{Call}
-use Rattle.mg_link.specs.Owner.{IsOf}
+use Rattle.mg_server.specs.Owner.{IsOf}
 use Rattle.mg_link.specs.Moment.{LinkKeeps, Moment, step_ending}
 use Rattle.mg_link.specs.Session.{Session, after_command, moved_on}
-use Rattle.mg_link.specs.State.{Start, Watch}
+use Rattle.mg_server.specs.State.{Start, Watch}
 use Rattle.mg_link.specs.declared.action.Step.{Step}
 use Rattle.mg_link.specs.declared.action.Step.TheVariants as step
 use Rattle.mg_link.specs.declared.session.TransactionState.{TransactionState}
 use Rattle.mg_link.specs.declared.session.TransactionState.TheVariants as states
-use Rattle.mg_link.proofs.Calls.{keeps_longer, keeps_on, same_keeps}
-use Rattle.mg_link.proofs.Moves.{moved, stayed}
+use Rattle.mg_server.proofs.Calls.{keeps_longer, keeps_on, same_keeps}
+use Rattle.mg_server.proofs.Moves.{moved, stayed}
 use Rattle.mg_link.proofs.Onward.{later_on, polled_once_more, tickets_on}
 use Rattle.mg_link.proofs.Places.{get_within}
 use Rattle.mg_ops.specs.Failing.{FailsBy}

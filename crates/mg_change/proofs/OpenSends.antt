@@ -7,7 +7,7 @@ use Rattle.mg_link.specs.Link.{Awaited, LogTold}
 use Rattle.mg_link.specs.Session.{Session}
 use Rattle.mg_link.specs.declared.action.Step.{Step}
 use Rattle.mg_link.specs.declared.action.Step.TheVariants as step
-use Rattle.mg_link.proofs.Execs.{runs_of}
+use Rattle.mg_exec.proofs.Execs.{runs_of}
 use Rattle.mg_ops.specs.declared.change_stream.WatchArgs.{WatchArgs}
 use Rattle.mg_change.specs.ClientOpenings.{ClientOpening, HearsOpening, OpensStream, RunsOpening, begins, broke, first_aggregate, goes_on, not_built, opened}
 use Rattle.mg_change.specs.ClientStreams.{ClientStream, resuming_in}

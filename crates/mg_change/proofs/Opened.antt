@@ -5,23 +5,23 @@ use Rattle.mg_bson.specs.Tree.{Tree, Fields, Items, no_items, item}
 use Rattle.mg_bson.specs.Find.{as_document}
 use Rattle.mg_bson.specs.declared.tree.Timestamp.{Timestamp}
 use Rattle.mg_bson.specs.Raw.{fields}
-use Rattle.mg_link.specs.Commands.{asks_watch, as_time, asked, batch_of, documents_in, start_by}
+use Rattle.mg_server.specs.Commands.{asks_watch, as_time, asked, batch_of, documents_in, start_by}
 use Rattle.mg_link.specs.Namespace.{space, target}
-use Rattle.mg_link.specs.State.{Start, Watch, nowhere, after, at_time}
+use Rattle.mg_server.specs.State.{Start, Watch, nowhere, after, at_time}
 use Rattle.mg_link.specs.Exec.{Sending, Stage, unsent, first, second, IsSuccess, Runs}
-use Rattle.mg_link.specs.Follow.{Follow, starting, start_token, first_token as token_behind, Moved}
+use Rattle.mg_server.specs.Follow.{Follow, starting, start_token, first_token as token_behind, Moved}
 use Rattle.mg_link.specs.Link.{Awaited, LogTold, Sees}
 use Rattle.mg_link.specs.Log.{reply}
 use Rattle.mg_link.specs.Session.{Session}
 use Rattle.mg_link.specs.declared.action.Step.{Step}
 use Rattle.mg_link.specs.declared.action.Step.TheVariants as step
 use Rattle.mg_link.specs.declared.error.Error.{Error}
-use Rattle.mg_link.proofs.Execs.{runs_of}
-use Rattle.mg_link.proofs.Heard.{watch_spoiled}
-use Rattle.mg_link.proofs.Moves.{moved, stayed}
-use Rattle.mg_link.proofs.Openings.{opened_with as opened_at, start_heard}
-use Rattle.mg_link.specs.Moves.{at_stage}
-use Rattle.mg_link.proofs.Retries.{opening_request, place_of, ran}
+use Rattle.mg_exec.proofs.Execs.{runs_of}
+use Rattle.mg_server.proofs.Heard.{watch_spoiled}
+use Rattle.mg_server.proofs.Moves.{moved, stayed}
+use Rattle.mg_server.proofs.Openings.{opened_with as opened_at, start_heard}
+use Rattle.mg_server.specs.Moves.{at_stage}
+use Rattle.mg_server.proofs.Retries.{opening_request, place_of, ran}
 use Rattle.mg_options.specs.Tokens.{batch_token, first_token, or_else}
 use Rattle.mg_options.specs.Printing.{time_value}
 use Rattle.mg_options.specs.declared.change_stream.ChangeStreamOptions.{ChangeStreamOptions}

@@ -2,7 +2,7 @@
 use Rattle.std.proofs.Common.{◌≡◌, ◌⊎◌, ℕ, ℤ, Bool, false, List, length, Option, Some, None, refl, sym, ap, ◌∙◌, subst, inl, inr, arith}
 use Rattle.std.specs.Prelude.{◌&&◌}
 use Rattle.mg_bson.specs.Raw.{fields}
-use Rattle.mg_link.specs.Calls.{Came, Flies, Grows, HeardAt, HeardLast, IsRetried, Keeps, Past, RequestFails, past_of}
+use Rattle.mg_server.specs.Calls.{Came, Flies, Grows, HeardAt, HeardLast, IsRetried, Keeps, Past, RequestFails, past_of}
 use Rattle.mg_link.specs.Exec.{IsSuccess, Runs, Sending, Stage}
 use Rattle.mg_link.specs.Link.{Awaited, LogTold}
 use Rattle.mg_link.specs.Log.{Call, reply}
@@ -11,9 +11,9 @@ use Rattle.mg_link.specs.Session.{Session}
 use Rattle.mg_link.specs.declared.action.Step.{Step}
 use Rattle.mg_link.specs.declared.action.Step.TheVariants as step
 use Rattle.mg_link.specs.declared.error.Error.{Error}
-use Rattle.mg_link.proofs.Calls.{request_ran, same_keeps, success_ran}
-use Rattle.mg_link.proofs.Execs.{runs_of}
-use Rattle.mg_link.proofs.Pasts.{fails_anyhow, flies_grows, last_reply, request_fails_grows}
+use Rattle.mg_server.proofs.Calls.{request_ran, same_keeps, success_ran}
+use Rattle.mg_exec.proofs.Execs.{runs_of}
+use Rattle.mg_server.proofs.Pasts.{fails_anyhow, flies_grows, last_reply, request_fails_grows}
 use Rattle.mg_ops.specs.Failing.{FailsBy}
 use Rattle.mg_ops.specs.declared.change_stream.WatchArgs.{WatchArgs}
 use Rattle.mg_ops.proofs.Unread.{unread_fails}

@@ -5,9 +5,9 @@ use Rattle.mg_bson.specs.Tree.{Fields}
 use Rattle.mg_bson.specs.Raw.{fields}
 use Rattle.mg_bson.specs.Reading.{doc}
 use Rattle.mg_bson.specs.declared.tree.Timestamp.{Timestamp}
-use Rattle.mg_link.specs.Calls.{Flies, HeardAt, HeardLast, Past, WaitsAt, past_of}
+use Rattle.mg_server.specs.Calls.{Flies, HeardAt, HeardLast, Past, WaitsAt, past_of}
 use Rattle.mg_link.specs.Exec.{Attempt, answered, Begins, GoesOn, IsSuccess, Runs, Sending, Stage, Tries, first, second, unsent}
-use Rattle.mg_link.specs.Follow.{Follow, Moved}
+use Rattle.mg_server.specs.Follow.{Follow, Moved}
 use Rattle.mg_link.specs.Link.{Awaited, LogTold}
 use Rattle.mg_link.specs.Log.{Call, reply}
 use Rattle.mg_link.specs.Reply.{verdict_of}
@@ -16,9 +16,9 @@ use Rattle.mg_link.specs.Session.{Session}
 use Rattle.mg_link.specs.declared.action.Step.{Step}
 use Rattle.mg_link.specs.declared.action.Step.TheVariants as step
 use Rattle.mg_link.specs.declared.reply.Verdict.{Verdict}
-use Rattle.mg_link.proofs.Calls.{begun, gone_on, keeps_longer, success_ran, tried}
-use Rattle.mg_link.proofs.Execs.{runs_of}
-use Rattle.mg_link.proofs.Retries.{next_is, next_place}
+use Rattle.mg_server.proofs.Calls.{begun, gone_on, keeps_longer, success_ran, tried}
+use Rattle.mg_exec.proofs.Execs.{runs_of}
+use Rattle.mg_server.proofs.Retries.{next_is, next_place}
 use Rattle.mg_ops.specs.declared.change_stream.WatchArgs.{WatchArgs}
 use Rattle.mg_ops.specs.declared.cursor_reply.CursorSpecification.{CursorSpecification}
 use Rattle.mg_change.specs.ClientOpenings.{ClientOpening, HearsOpening, IsSoundOpening, OpensStream, RunsOpening, SendsSoundly, begins, broke, first_aggregate, goes_on, not_built, opened, opened_with}

@@ -3,7 +3,7 @@ use Rattle.std.proofs.Common.{◌≡◌, ℕ, List, [], map, Option, Some, Ok, o
 use Rattle.std.specs.Prelude.{unwrap_or}
 use Rattle.mg_bson.specs.Raw.{fields}
 use Rattle.mg_bson.specs.Tree.{Fields}
-use Rattle.mg_link.specs.Commands.{documents_in}
+use Rattle.mg_server.specs.Commands.{documents_in}
 use Rattle.mg_ops.specs.Cursors.{Cursor, cursor_of}
 use Rattle.mg_cursor.specs.Batches.{documents_of}
 use Rattle.mg_cursor.proofs.Batching.{documents_read}

@@ -3,10 +3,10 @@ use Rattle.std.proofs.Common.{◌≡◌, ℤ, Bool, true, false, not, Option, So
 use Rattle.std.specs.Prelude.{◌&&◌, ◌||◌, codes, is_some, int_lt, if◌then◌else◌, option_and_then}
 use Rattle.mg_bson.specs.Tree.{Tree}
 use Rattle.mg_bson.specs.declared.tree.Timestamp.{Timestamp}
-use Rattle.mg_link.specs.Commands.{as_database, start_by, whole_target}
-use Rattle.mg_link.specs.Follow.{ResumesAt}
-use Rattle.mg_link.specs.Namespace.{Target, database, collection, cluster}
-use Rattle.mg_link.specs.State.{Start, nowhere, after, at_time, time_of}
+use Rattle.mg_link.specs.Namespace.{as_database, Target, database, collection, cluster}
+use Rattle.mg_server.specs.Commands.{start_by, whole_target}
+use Rattle.mg_server.specs.Follow.{ResumesAt}
+use Rattle.mg_server.specs.State.{Start, nowhere, after, at_time, time_of}
 use Rattle.mg_options.specs.Printing.{time_value}
 use Rattle.mg_options.specs.declared.change_stream.ChangeStreamOptions.{ChangeStreamOptions}
 use Rattle.mg_ops.specs.Aims.{aim}

@@ -3,7 +3,7 @@ use Rattle.std.proofs.Common.{◌≡◌, ◌≢◌, ◌⊎◌, ◌≤◌, ◌<�
 use Rattle.mg_bson.specs.Tree.{Fields}
 use Rattle.mg_bson.specs.Raw.{fields}
 use Rattle.mg_bson.specs.Reading.{doc}
-use Rattle.mg_link.specs.Calls.{Keeps, Past, RequestFails, out_of_memory, was_broken, was_lost, was_refused}
+use Rattle.mg_server.specs.Calls.{Keeps, Past, RequestFails, out_of_memory, was_broken, was_lost, was_refused}
 use Rattle.mg_link.specs.Errors.{plain}
 use Rattle.mg_link.specs.Exec.{FailsAs, FailsByReply}
 use Rattle.mg_link.specs.Failures.{refusal_by}
@@ -18,7 +18,7 @@ use Rattle.mg_link.specs.declared.error.ErrorKind.TheVariants as kind
 use Rattle.mg_link.specs.declared.error.Malformed.TheVariants as malformed
 use Rattle.mg_link.specs.declared.reply.Verdict.{Verdict}
 use Rattle.mg_link.specs.declared.reply.Verdict.TheVariants as verdict
-use Rattle.mg_link.proofs.Calls.{keeps_on, same_keeps}
+use Rattle.mg_server.proofs.Calls.{keeps_on, same_keeps}
 use Rattle.mg_ops.specs.Cursors.{BreaksIn}
 use Rattle.mg_ops.specs.Failing.{CannotBeSent, HasBadSize}
 use Rattle.mg_cursor.specs.Batches.{BreaksBatch, bad_item, no_batch}

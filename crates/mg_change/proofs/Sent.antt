@@ -4,17 +4,17 @@ use Rattle.std.proofs.lemmas.List.{map-append, append_assoc}
 use Rattle.std.specs.Prelude.{◌≢◌, ◌<◌, ◌≤◌}
 use Rattle.mg_bson.specs.Tree.{Fields}
 use Rattle.mg_bson.specs.Raw.{fields}
-use Rattle.mg_link.specs.Calls.{Grows, Keeps, Past, past_of}
+use Rattle.mg_server.specs.Calls.{Grows, Keeps, Past, past_of}
 use Rattle.mg_link.specs.Exec.{Stage, unsent, first, second, Sending, Attempt, not_sent, waits, answered, Begins, GoesOn, Runs, Tries, holding, is_repeated}
 use Rattle.mg_link.specs.Link.{Awaited, SendsNothing, LogTold, Adds, Sees}
 use Rattle.mg_link.specs.Log.{Sight, waiting, Call, see}
 use Rattle.mg_link.specs.Moment.{Ending, failed, finished, pending}
-use Rattle.mg_link.specs.Owner.{nobody}
+use Rattle.mg_server.specs.Owner.{nobody}
 use Rattle.mg_link.specs.Session.{Session}
-use Rattle.mg_link.proofs.Apart.{nobody_named, onward_foreign, onward_on, onward_refl, onward_seen}
-use Rattle.mg_link.proofs.Calls.{keeps_on}
-use Rattle.mg_link.proofs.Execs.{runs_of}
-use Rattle.mg_link.proofs.Owners.{same_some}
+use Rattle.mg_server.proofs.Apart.{nobody_named, onward_foreign, onward_on, onward_refl, onward_seen}
+use Rattle.mg_server.proofs.Calls.{keeps_on}
+use Rattle.mg_exec.proofs.Execs.{runs_of}
+use Rattle.mg_server.proofs.Owners.{same_some}
 use Rattle.mg_link.proofs.Waits.{never_again}
 use Rattle.mg_link.specs.declared.action.Step.{Step}
 use Rattle.mg_link.specs.declared.action.Step.TheVariants as step

@@ -3,28 +3,28 @@ use Rattle.std.proofs.Common.{◌≡◌, ◌≢◌, ◌⊎◌, ◌++◌, ℕ, �
 use Rattle.std.specs.Prelude.{unwrap_or}
 use Rattle.mg_bson.specs.Raw.{fields}
 use Rattle.mg_bson.specs.Tree.{Tree, Fields}
-use Rattle.mg_link.specs.Commands.{asks_more as more_asked, asks_watch, asked, documents_in}
+use Rattle.mg_server.specs.Commands.{asks_more as more_asked, asks_watch, asked, documents_in}
 use Rattle.mg_link.specs.Exec.{IsSuccess, Runs, Sending, Stage, first, second, unsent}
-use Rattle.mg_link.specs.Follow.{Follow, Moved, ResumesAt, asking, empty_token, holding, last_token, owing, resting, resuming}
+use Rattle.mg_server.specs.Follow.{Follow, Moved, ResumesAt, asking, empty_token, holding, last_token, owing, resting, resuming}
 use Rattle.mg_link.specs.Link.{Awaited, SendsNothing, LogTold}
 use Rattle.mg_link.specs.Log.{reply}
 use Rattle.mg_link.specs.Namespace.{space, target}
 use Rattle.mg_link.specs.Resumable.{is_resumable}
 use Rattle.mg_link.specs.Session.{Session}
-use Rattle.mg_link.specs.State.{Start, Watch}
-use Rattle.mg_link.specs.Step.{ends_cursor}
+use Rattle.mg_server.specs.State.{Start, Watch}
+use Rattle.mg_server.specs.Step.{ends_cursor}
 use Rattle.mg_link.specs.declared.action.Step.{Step}
 use Rattle.mg_link.specs.declared.action.Step.TheVariants as step
 use Rattle.mg_link.specs.declared.error.Error.{Error}
 use Rattle.mg_link.specs.declared.error.ErrorKind.{ErrorKind}
 use Rattle.mg_link.specs.declared.error.ErrorKind.TheVariants as kind
-use Rattle.mg_link.proofs.Answering.{answering, event_answered, event_taken, last_answered, last_taken, nothing_answered}
-use Rattle.mg_link.specs.Moves.{MoreAnswered, at_stage}
-use Rattle.mg_link.proofs.Asking.{asks_at}
-use Rattle.mg_link.proofs.Execs.{runs_of}
-use Rattle.mg_link.proofs.Moves.{moved, stayed}
-use Rattle.mg_link.proofs.Resumes.{kill_passed, let_go as lets_go}
-use Rattle.mg_link.proofs.Spoiled.{cursor_dropped}
+use Rattle.mg_server.proofs.Answering.{answering, event_answered, event_taken, last_answered, last_taken, nothing_answered}
+use Rattle.mg_server.specs.Moves.{MoreAnswered, at_stage}
+use Rattle.mg_server.proofs.Asking.{asks_at}
+use Rattle.mg_exec.proofs.Execs.{runs_of}
+use Rattle.mg_server.proofs.Moves.{moved, stayed}
+use Rattle.mg_server.proofs.Resumes.{kill_passed, let_go as lets_go}
+use Rattle.mg_server.proofs.Spoiled.{cursor_dropped}
 use Rattle.mg_options.specs.declared.change_stream.ChangeStreamOptions.{ChangeStreamOptions}
 use Rattle.mg_ops.specs.Aims.{asked_for}
 use Rattle.mg_ops.specs.Cursors.{BreaksIn, Cursor}

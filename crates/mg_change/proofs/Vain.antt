@@ -5,26 +5,26 @@ use Rattle.mg_bson.specs.Raw.{fields}
 use Rattle.mg_link.specs.declared.action.Step.{Step}
 use Rattle.mg_link.specs.declared.action.Step.TheVariants as step
 use Rattle.mg_link.specs.declared.error.Error.{Error}
-use Rattle.mg_link.specs.Commands.{Asked, asks_other, asked, filter_stages, garbled, told, told_by}
-use Rattle.mg_link.specs.Commands as commands
+use Rattle.mg_server.specs.Commands.{Asked, asks_other, asked, filter_stages, garbled, told, told_by}
+use Rattle.mg_server.specs.Commands as commands
 use Rattle.mg_link.specs.Exec.{Stage, unsent, first, second, Sending, waits, answered, Begins, GoesOn, IsSuccess, Tries, Runs, holding, ticket_at, ticket_of}
-use Rattle.mg_link.specs.Filter.{Condition}
-use Rattle.mg_link.specs.History as history
-use Rattle.mg_link.specs.History.{IsLegalFrom, step_after, told_at}
+use Rattle.mg_server.specs.Filter.{Condition}
+use Rattle.mg_server.specs.History as history
+use Rattle.mg_server.specs.History.{IsLegalFrom, step_after, told_at}
 use Rattle.mg_link.specs.Link.{Awaited, LogTold}
 use Rattle.mg_link.specs.Log.{Call, Sight, reply, see, waiting}
 use Rattle.mg_link.specs.Namespace.{Target, target}
-use Rattle.mg_link.specs.Owner.{Passes, nobody, PassesPlain}
+use Rattle.mg_server.specs.Owner.{Passes, nobody, PassesPlain}
 use Rattle.mg_link.specs.Session.{Session}
-use Rattle.mg_link.specs.Standing.{Names, SeenFits}
-use Rattle.mg_link.specs.State.{Start, State}
-use Rattle.mg_link.specs.Step.{May, MayTell, grown}
-use Rattle.mg_link.specs.State as state
-use Rattle.mg_link.proofs.Execs.{runs_of}
-use Rattle.mg_link.proofs.Heard.{told_heard}
-use Rattle.mg_link.proofs.Owners.{legal_parts, same_some, see_here}
+use Rattle.mg_server.specs.Standing.{Names, SeenFits}
+use Rattle.mg_server.specs.State.{Start, State}
+use Rattle.mg_server.specs.Step.{May, MayTell, grown}
+use Rattle.mg_server.specs.State as state
+use Rattle.mg_exec.proofs.Execs.{runs_of}
+use Rattle.mg_server.proofs.Heard.{told_heard}
+use Rattle.mg_server.proofs.Owners.{legal_parts, same_some, see_here}
 use Rattle.mg_link.proofs.Places.{get_seam}
-use Rattle.mg_link.proofs.Killing.{plain_ran, plain_stayed}
+use Rattle.mg_server.proofs.Killing.{plain_ran, plain_stayed}
 use Rattle.mg_ops.specs.Aims.{Aim, aim, asked_for}
 use Rattle.mg_ops.specs.Naming.{start_in}
 use Rattle.mg_ops.specs.declared.change_stream.WatchArgs.{WatchArgs}

@@ -3,7 +3,7 @@ use Rattle.std.specs.Prelude.{◌≡◌, ◌≢◌, ◌⊎◌, true, false, ℕ,
 use Rattle.mg_bson.specs.Raw.{fields}
 use Rattle.mg_bson.specs.Tree.{Tree}
 use Rattle.mg_bson.specs.declared.tree.Timestamp.{Timestamp}
-use Rattle.mg_link.specs.Calls.{Flies, HeardBy, HeardLast, IsAwaited, Keeps, NoneBroken, Past, RequestFails, past_of}
+use Rattle.mg_server.specs.Calls.{Flies, HeardBy, HeardLast, IsAwaited, Keeps, NoneBroken, Past, RequestFails, past_of}
 use Rattle.mg_link.specs.Errors.{plain}
 use Rattle.mg_link.specs.Exec.{IsSuccess, Sending}
 use Rattle.mg_link.specs.Link.{Awaited, LogTold}

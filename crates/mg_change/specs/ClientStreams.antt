@@ -5,12 +5,12 @@ use Rattle.mg_bson.specs.Find.{get}
 use Rattle.mg_bson.specs.Raw.{fields}
 use Rattle.mg_bson.specs.Tree.{Tree, Fields}
 use Rattle.mg_bson.specs.declared.tree.Timestamp.{Timestamp}
-use Rattle.mg_link.specs.Commands.{filter_stages}
+use Rattle.mg_server.specs.Commands.{filter_stages}
 use Rattle.mg_link.specs.Exec.{Sending, Stage, unsent, first, second, ticket_of}
-use Rattle.mg_link.specs.ExecView.{reads}
+use Rattle.mg_exec.specs.ExecView.{reads}
 use Rattle.mg_link.specs.Namespace.{target}
 use Rattle.mg_link.specs.Session.{Session}
-use Rattle.mg_link.specs.State.{Start, Watch}
+use Rattle.mg_server.specs.State.{Start, Watch}
 use Rattle.mg_link.specs.declared.pinned.PinnedConnection.TheVariants as connection
 use Rattle.mg_options.specs.Fields.{fields_in}
 use Rattle.mg_options.specs.declared.change_stream.ChangeStreamOptions.{ChangeStreamOptions}

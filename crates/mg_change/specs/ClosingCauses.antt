@@ -2,7 +2,7 @@
 use Rattle.std.specs.Prelude.{◌≡◌, ◌≢◌, ◌⊎◌, false, ℕ, ℤ, pos, List, [], length, Some, Ok}
 use Rattle.mg_bson.specs.Raw.{fields}
 use Rattle.mg_bson.specs.Tree.{Fields}
-use Rattle.mg_link.specs.Calls.{Flies, HeardBy, HeardLast, IsAwaited, Keeps, NoneBroken, Past, RequestFails, past_of}
+use Rattle.mg_server.specs.Calls.{Flies, HeardBy, HeardLast, IsAwaited, Keeps, NoneBroken, Past, RequestFails, past_of}
 use Rattle.mg_link.specs.Exec.{IsSuccess, Sending}
 use Rattle.mg_link.specs.Link.{Awaited, LogTold}
 use Rattle.mg_link.specs.Log.{Call, reply}

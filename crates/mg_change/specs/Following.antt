@@ -3,12 +3,12 @@ use Rattle.std.specs.Prelude.{◌≡◌, ℕ, ℤ, pos, List, [], ◌∷◌, ◌
 use Rattle.mg_bson.specs.Raw.{fields}
 use Rattle.mg_bson.specs.Tree.{Tree, Fields}
 use Rattle.mg_link.specs.Exec.{Sending}
-use Rattle.mg_link.specs.Follow.{Follow, Moved, asking, holding, owing, resting, resuming, starting, unopened}
+use Rattle.mg_server.specs.Follow.{Follow, Moved, asking, holding, owing, resting, resuming, starting, unopened}
 use Rattle.mg_link.specs.Link.{Awaited, LogTold}
-use Rattle.mg_link.specs.State.{Start, Watch}
+use Rattle.mg_server.specs.State.{Start, Watch}
 use Rattle.mg_link.specs.declared.action.Step.{Step}
 use Rattle.mg_link.specs.declared.action.Step.TheVariants as step
-use Rattle.mg_link.specs.Moves.{at_stage}
+use Rattle.mg_server.specs.Moves.{at_stage}
 use Rattle.mg_ops.specs.declared.change_stream.WatchArgs.{WatchArgs}
 use Rattle.mg_cursor.specs.Batches.{documents_of}
 use Rattle.mg_cursor.specs.Client.{ClientCursor, asks, holds, rests}

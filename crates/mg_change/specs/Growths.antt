@@ -3,12 +3,12 @@ use Rattle.std.specs.Prelude.{◌≡◌, ℕ, List, Option, Some, None, slice_ge
 use Rattle.mg_link.specs.declared.action.Step.{Step}
 use Rattle.mg_link.specs.declared.action.Step.TheVariants as step
 use Rattle.mg_link.specs.Exec.{Sending, ticket_of}
-use Rattle.mg_link.specs.History as history
-use Rattle.mg_link.specs.History.{IsLegal}
+use Rattle.mg_server.specs.History as history
+use Rattle.mg_server.specs.History.{IsLegal}
 use Rattle.mg_link.specs.Link.{Awaited, LogTold}
 use Rattle.mg_link.specs.Log.{Call}
-use Rattle.mg_link.specs.Owner.{Onward, Passes, nobody}
-use Rattle.mg_link.specs.Standing.{Stands}
+use Rattle.mg_server.specs.Owner.{Onward, Passes, nobody}
+use Rattle.mg_server.specs.Standing.{Stands}
 use Rattle.mg_change.specs.ClientOpenings.{ClientOpening}
 use Rattle.mg_change.specs.ClientStreams.{ClientStream}
 

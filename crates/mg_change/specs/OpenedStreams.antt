@@ -2,14 +2,14 @@
 use Rattle.std.specs.Prelude.{◌≡◌, ℕ, ℤ, List, [], length, Option, Some, None}
 use Rattle.mg_bson.specs.Tree.{Fields}
 use Rattle.mg_link.specs.Acts.{EndsAtOnce, FailsByFault, PendsBy, Tickets, ticket_after}
-use Rattle.mg_link.specs.Calls.{Keeps, past_of}
+use Rattle.mg_server.specs.Calls.{Keeps, past_of}
 use Rattle.mg_link.specs.Exec.{Sending}
-use Rattle.mg_link.specs.Follow.{Moved}
+use Rattle.mg_server.specs.Follow.{Moved}
 use Rattle.mg_link.specs.Link.{Awaited, Later, LogTold}
 use Rattle.mg_link.specs.Log.{Call}
 use Rattle.mg_link.specs.Moment.{Moment}
 use Rattle.mg_link.specs.Session.{Session}
-use Rattle.mg_link.specs.State.{Start, Watch}
+use Rattle.mg_server.specs.State.{Start, Watch}
 use Rattle.mg_link.specs.declared.action.Step.{Step}
 use Rattle.mg_link.specs.declared.action.Step.TheVariants as step
 use Rattle.mg_ops.specs.declared.change_stream.WatchArgs.{WatchArgs}

@@ -2,7 +2,7 @@
 use Rattle.std.specs.Prelude.{◌≡◌, ℕ, ℤ, List, length, Option, Some, None}
 use Rattle.mg_bson.specs.Raw.{fields}
 use Rattle.mg_bson.specs.declared.tree.Timestamp.{Timestamp}
-use Rattle.mg_link.specs.Calls.{Flies, HeardLast, Keeps, Past, RequestFails, past_of}
+use Rattle.mg_server.specs.Calls.{Flies, HeardLast, Keeps, Past, RequestFails, past_of}
 use Rattle.mg_link.specs.Errors.{plain}
 use Rattle.mg_link.specs.Exec.{IsSuccess, Sending}
 use Rattle.mg_link.specs.Link.{Awaited, LogTold}

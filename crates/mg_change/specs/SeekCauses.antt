@@ -1,6 +1,6 @@
 -- What the answers of a call that seeks an event are caused by, over all its polls.
 use Rattle.std.specs.Prelude.{◌≡◌, ◌≢◌, ◌⊎◌, ◌<◌, ◌≤◌, ℕ, ℤ, pos, Bool, List, [], length, Option, Some, None}
-use Rattle.mg_link.specs.Calls.{Keeps, Past, past_of}
+use Rattle.mg_server.specs.Calls.{Keeps, Past, past_of}
 use Rattle.mg_link.specs.Errors.{plain}
 use Rattle.mg_link.specs.Link.{Awaited, LogTold}
 use Rattle.mg_link.specs.Log.{Call}

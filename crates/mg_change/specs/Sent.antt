@@ -1,13 +1,13 @@
 -- What a stream sends in one call.
 use Rattle.std.specs.Prelude.{◌≡◌, ◌≢◌, ◌<◌, ◌≤◌, ◌++◌, ℕ, zero, suc, ℤ, pos, Bool, List, [], ◌∷◌, length, Option, Some, None}
 use Rattle.mg_bson.specs.Tree.{Fields}
-use Rattle.mg_link.specs.Calls.{Past, past_of}
+use Rattle.mg_server.specs.Calls.{Past, past_of}
 use Rattle.mg_link.specs.Exec.{Sending, Stage, first, second, unsent}
 use Rattle.mg_link.specs.Link.{Awaited, LogTold}
 use Rattle.mg_link.specs.Log.{Call}
 use Rattle.mg_link.specs.Moment.{Ending, failed, finished, pending}
 use Rattle.mg_link.specs.Namespace.{Space}
-use Rattle.mg_link.specs.Owner.{Onward, nobody}
+use Rattle.mg_server.specs.Owner.{Onward, nobody}
 use Rattle.mg_link.specs.Session.{Session}
 use Rattle.mg_ops.specs.Commands.{kill_command}
 use Rattle.mg_ops.specs.Logs.{commands_sent}

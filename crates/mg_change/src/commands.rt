@@ -7,7 +7,8 @@ ghost use Rattle.mg_cursor.specs.Client.{IsNew};
 ghost use Rattle.mg_change.specs.ClientStreams.{IsNewAggregate, resuming_in};
 ghost use Rattle.mg_change.specs.Steps.{CannotResume};
 
-use mg_link::{ClientSession, Error, Exec, Namespace};
+use mg_exec::Exec;
+use mg_link::{ClientSession, Error, Namespace};
 use mg_ops::{ChangeStreamAggregate, KillCursors, Operation, encode};
 use std::alloc::Global;
 

@@ -1,11 +1,11 @@
 //! What the clauses of change streams come to, for those who use them.
 ghost use Rattle.std.specs.Prelude.{◌≡◌, ℕ, ℤ, Bool, List, None, Option};
 ghost use Rattle.mg_bson.specs.Tree.{Fields};
-ghost use Rattle.mg_link.specs.Calls.{Past};
-ghost use Rattle.mg_link.specs.Follow.{Moved};
+ghost use Rattle.mg_server.specs.Calls.{Past};
+ghost use Rattle.mg_server.specs.Follow.{Moved};
 ghost use Rattle.mg_link.specs.Link.{Awaited, LogTold};
 ghost use Rattle.mg_link.specs.Session.{Session};
-ghost use Rattle.mg_link.specs.State.{Start, Watch};
+ghost use Rattle.mg_server.specs.State.{Start, Watch};
 ghost use Rattle.mg_link.specs.declared.action.Step.{Step};
 ghost use Rattle.mg_link.specs.declared.action.Step.TheVariants as step;
 ghost use Rattle.mg_cursor.specs.Client.{PlainIf};

@@ -2,7 +2,7 @@
 ghost use Rattle.std.specs.Prelude.{◌≡◌, Bool, None, Option};
 ghost use Rattle.mg_link.specs.Acts.{EndsAtOnce, FailsByFault, IsOut, Pended, Tickets, ticket_after};
 ghost use Rattle.mg_link.specs.Link.{Later};
-ghost use Rattle.mg_link.specs.State.{Start, Watch};
+ghost use Rattle.mg_server.specs.State.{Start, Watch};
 ghost use Rattle.mg_change.specs.ClientOpenings.{KeepsOpening, OpensStream, seen_step};
 ghost use Rattle.mg_change.specs.ClientStreams.{Asks};
 ghost use Rattle.mg_change.specs.Following.{OpeningMoves};

@@ -20,7 +20,8 @@ ghost use Rattle.mg_change.specs.StreamView.{IsOwnPlace, IsSavedPlace, IsStream,
 use crate::changes::Changes;
 use crate::commands::resume;
 use mg_bson::{RawDocumentBuf, Timestamp};
-use mg_link::{ClientSession, ClientSessionHandle, Error, Exec, Link, Step};
+use mg_exec::Exec;
+use mg_link::{ClientSession, ClientSessionHandle, Error, Link, Step};
 use mg_ops::{
     ChangeStreamAggregate, ChangeStreamData, CursorSpecification, Operation, WatchArgs,
     initial_operation_time,

@@ -2,7 +2,7 @@
 ghost use Rattle.std.specs.Prelude.{◌≡◌, Bool, None, Option, Some, false};
 ghost use Rattle.mg_link.specs.Acts.{IsOut, ticket_after};
 ghost use Rattle.mg_link.specs.Moment.{LinkKeeps, moment, step_ending};
-ghost use Rattle.mg_link.specs.State.{Start, Watch};
+ghost use Rattle.mg_server.specs.State.{Start, Watch};
 ghost use Rattle.mg_cursor.specs.Seeking.{session_moved};
 ghost use Rattle.mg_change.specs.ClientOpenings.{KeepsOpening, OpensStream, opening_ticket, seen_step};
 ghost use Rattle.mg_change.specs.ClientStreams.{Asks};

@@ -2,10 +2,10 @@
 ghost use Rattle.std.specs.Prelude.{◌≡◌, ◌↔◌, ◌++◌, ℕ, IsTrue, List, Option, Some, false};
 ghost use Rattle.mg_bson.specs.Tree.{Fields};
 ghost use Rattle.mg_link.specs.Acts.{IsOut};
-ghost use Rattle.mg_link.specs.Follow.{Moved};
+ghost use Rattle.mg_server.specs.Follow.{Moved};
 ghost use Rattle.mg_link.specs.Moment.{LinkKeeps, moment};
 ghost use Rattle.mg_link.specs.Session.{after_command};
-ghost use Rattle.mg_link.specs.State.{Start, Watch};
+ghost use Rattle.mg_server.specs.State.{Start, Watch};
 ghost use Rattle.mg_cursor.specs.Seeking.{times};
 ghost use Rattle.mg_change.specs.Causes.{CallCaused, TryCaused};
 ghost use Rattle.mg_change.specs.ClientStreams.{Asks, IsAlive, lends_nothing, stream_ticket, stream_token};

@@ -2,9 +2,9 @@
 ghost use Rattle.std.specs.Prelude.{◌≡◌, ◌↔◌, ◌++◌, ℕ, IsTrue, List, Option, None, false};
 ghost use Rattle.mg_bson.specs.Tree.{Fields};
 ghost use Rattle.mg_link.specs.Acts.{IsOut};
-ghost use Rattle.mg_link.specs.Follow.{Moved};
+ghost use Rattle.mg_server.specs.Follow.{Moved};
 ghost use Rattle.mg_link.specs.Moment.{LinkKeeps, moment};
-ghost use Rattle.mg_link.specs.State.{Start, Watch};
+ghost use Rattle.mg_server.specs.State.{Start, Watch};
 ghost use Rattle.mg_change.specs.Causes.{CallCaused, TryCaused};
 ghost use Rattle.mg_change.specs.ClientStreams.{Asks, IsAlive, lends_nothing, stream_ticket, stream_token};
 ghost use Rattle.mg_change.specs.ClosingStreams.{LandsFor, closed_stream, stream_closing_ticket};

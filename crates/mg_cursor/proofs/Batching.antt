@@ -10,7 +10,7 @@ use Rattle.mg_bson.specs.Tree.{Tree, Fields, no_fields, Items, no_items}
 use Rattle.mg_bson.specs.Walks.{before}
 use Rattle.mg_bson.proofs.Options.{map_some}
 use Rattle.mg_bson.proofs.Inside.{inside_value}
-use Rattle.mg_link.specs.Commands.{batch_items, documents_in, or_else as or_items}
+use Rattle.mg_server.specs.Commands.{batch_items, documents_in, or_else as or_items}
 use Rattle.mg_link.specs.Errors.{plain}
 use Rattle.mg_link.specs.declared.error.Error.{Error}
 use Rattle.mg_link.specs.declared.error.ErrorKind.TheVariants as kind

@@ -1,16 +1,16 @@
 -- What a poll for the next batch of a cursor is caused by.
 use Rattle.std.proofs.Common.{◌≡◌, ◌≤◌, ℕ, ℤ, Bool, false, List, length, Option, Some, sym, ap, ◌∙◌, subst, inl, inr, arith}
 use Rattle.mg_bson.specs.Raw.{fields}
-use Rattle.mg_link.specs.Calls.{Came, Flies, HeardLast, Keeps, Past, past_of, was_broken}
+use Rattle.mg_server.specs.Calls.{Came, Flies, HeardLast, Keeps, Past, past_of, was_broken}
 use Rattle.mg_link.specs.Exec.{IsSuccess, Runs, Sending, Stage, IsFirstTry}
 use Rattle.mg_link.specs.Link.{Awaited, SendsNothing, LogTold}
 use Rattle.mg_link.specs.Log.{Call, reply}
 use Rattle.mg_link.specs.Session.{Session}
 use Rattle.mg_link.specs.declared.action.Step.{Step}
 use Rattle.mg_link.specs.declared.action.Step.TheVariants as step
-use Rattle.mg_link.proofs.Calls.{RequestRan, request_ran, same_keeps, success_ran}
-use Rattle.mg_link.proofs.Execs.{runs_of}
-use Rattle.mg_link.proofs.Pasts.{fails_anyhow}
+use Rattle.mg_server.proofs.Calls.{RequestRan, request_ran, same_keeps, success_ran}
+use Rattle.mg_exec.proofs.Execs.{runs_of}
+use Rattle.mg_server.proofs.Pasts.{fails_anyhow}
 use Rattle.mg_link.proofs.Waits.{waits_still}
 use Rattle.mg_cursor.specs.Causes.{FliesMore, IsUnderway, NextCame, NextCaused, TellsNoCursor, UnderwayBy}
 use Rattle.mg_cursor.specs.Client.{ClientCursor, IsAsking, IsSound, SoundBy, asks, get_more}

@@ -3,21 +3,21 @@ use Rattle.std.proofs.Common.{◌≡◌, ◌≢◌, ◌≤◌, ◌+◌, ◌++◌
 use Rattle.std.specs.Prelude.{slice_get}
 use Rattle.mg_bson.specs.Raw.{fields}
 use Rattle.mg_bson.specs.Tree.{Fields}
-use Rattle.mg_link.specs.Commands.{Batch, asked, asks_more, asks_query, batch_of}
+use Rattle.mg_server.specs.Commands.{Batch, asked, asks_more, asks_query, batch_of}
 use Rattle.mg_link.specs.Exec.{Attempt, AttemptFails, AttemptGives, IsSuccess, Runs, Sending, Stage, answered, first, holding, not_sent, second, unsent, waits}
-use Rattle.mg_link.specs.History.{Step, state_of}
+use Rattle.mg_server.specs.History.{Step, state_of}
 use Rattle.mg_link.specs.Link.{Awaited, LogTold}
 use Rattle.mg_link.specs.Log.{Call, reply}
 use Rattle.mg_link.specs.Namespace.{Space}
-use Rattle.mg_link.specs.Owner.{Holds, IsOf, Owner, Passes}
-use Rattle.mg_link.specs.Query.{Query, result}
-use Rattle.mg_link.specs.Reader.{FactsOf, Fetching, HandBy, HasEnded, Portion, ReadMoved, Reader, coming_to, fetching, owner_of_reader, still}
+use Rattle.mg_server.specs.Owner.{Holds, IsOf, Owner, Passes}
+use Rattle.mg_server.specs.Query.{Query, result}
+use Rattle.mg_server.specs.Reader.{FactsOf, Fetching, HandBy, HasEnded, Portion, ReadMoved, Reader, coming_to, fetching, owner_of_reader, still}
 use Rattle.mg_link.specs.declared.action.Step.{Step as Polled}
 use Rattle.mg_link.specs.declared.action.Step.TheVariants as step
 use Rattle.mg_link.specs.declared.error.Error.{Error}
-use Rattle.mg_link.proofs.Apart.{passes_here, passes_same}
-use Rattle.mg_link.proofs.Fetches as fetches
-use Rattle.mg_link.proofs.Heard.{more_spoiled}
+use Rattle.mg_server.proofs.Apart.{passes_here, passes_same}
+use Rattle.mg_server.proofs.Fetches as fetches
+use Rattle.mg_server.proofs.Heard.{more_spoiled}
 use Rattle.mg_cursor.specs.Reading.{fetching_at}
 
 -- ---- a reader of which less is known

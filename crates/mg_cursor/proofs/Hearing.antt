@@ -13,7 +13,7 @@ use Rattle.mg_link.specs.Link.{Awaited, LogTold}
 use Rattle.mg_link.specs.Moment.{Ending, finished, failed, LinkKeeps, Moment, step_ending}
 use Rattle.mg_link.specs.Pinned.{is_invalid}
 use Rattle.mg_link.specs.Session.{Session}
-use Rattle.mg_link.specs.Step.{ends_cursor}
+use Rattle.mg_server.specs.Step.{ends_cursor}
 use Rattle.mg_link.specs.declared.action.Step.{Step}
 use Rattle.mg_link.specs.declared.action.Step.TheVariants as step
 use Rattle.mg_link.specs.declared.error.BadArgument.TheVariants as argument

@@ -6,7 +6,7 @@ use Rattle.mg_link.specs.Link.{Awaited, LogTold}
 use Rattle.mg_link.specs.Session.{Session, after_command}
 use Rattle.mg_link.specs.declared.action.Step.{Step}
 use Rattle.mg_link.specs.declared.action.Step.TheVariants as step
-use Rattle.mg_link.proofs.Execs.{runs_of}
+use Rattle.mg_exec.proofs.Execs.{runs_of}
 use Rattle.mg_link.proofs.Waits.{waits_still}
 use Rattle.mg_cursor.specs.Client.{ClientCursor, Doing, IsAsking, IsNew, IsSound, MayAsk, PlainIf, SoundBy, WaitsFor, asks, get_more, holds, kill, pinned_to, rests}
 use Rattle.mg_cursor.specs.Closing.{IsKilling, IsToKill, LandsIn, heard, quiet}

@@ -4,7 +4,7 @@ use Rattle.mg_bson.specs.Raw.{fields}
 use Rattle.mg_link.specs.Exec.{Sending}
 use Rattle.mg_link.specs.Link.{Awaited, LogTold}
 use Rattle.mg_link.specs.Session.{Session}
-use Rattle.mg_link.specs.Step.{ends_cursor}
+use Rattle.mg_server.specs.Step.{ends_cursor}
 use Rattle.mg_link.specs.declared.action.Step.{Step}
 use Rattle.mg_link.specs.declared.action.Step.TheVariants as step
 use Rattle.mg_link.specs.declared.error.ErrorKind.{ErrorKind}

@@ -4,14 +4,14 @@ use Rattle.std.specs.Prelude.{unwrap_or}
 use Rattle.mg_bson.specs.Raw.{fields}
 use Rattle.mg_bson.specs.Tree.{Fields}
 use Rattle.mg_link.specs.Exec.{IsSuccess}
-use Rattle.mg_link.specs.Follow.{Reads}
+use Rattle.mg_server.specs.Follow.{Reads}
 use Rattle.mg_link.specs.Link.{Awaited, Sees, LogTold}
 use Rattle.mg_link.specs.Log.{Call, reply}
 use Rattle.mg_link.specs.Namespace.{space}
-use Rattle.mg_link.specs.Owner.{Passes}
-use Rattle.mg_link.specs.Query.{Query}
-use Rattle.mg_link.specs.Reader.{KnowsFinding, KnowsRead, Reader, finder, opened_at, owner_of_reader, still}
-use Rattle.mg_link.proofs.Finding.{read_opened}
+use Rattle.mg_server.specs.Owner.{Passes}
+use Rattle.mg_server.specs.Query.{Query}
+use Rattle.mg_server.specs.Reader.{KnowsFinding, KnowsRead, Reader, finder, opened_at, owner_of_reader, still}
+use Rattle.mg_server.proofs.Finding.{read_opened}
 use Rattle.mg_ops.specs.Cursors.{Cursor, Opens}
 use Rattle.mg_ops.specs.declared.cursor_reply.CursorSpecification.{CursorSpecification}
 use Rattle.mg_ops.proofs.Reading.{batch_as, batch_read}

@@ -3,20 +3,20 @@ use Rattle.std.proofs.Common.{◌≡◌, ◌≤◌, ◌+◌, ◌++◌, ◌||◌,
 use Rattle.std.proofs.lemmas.Bool.{or_left, or_right}
 use Rattle.mg_bson.specs.Raw.{fields}
 use Rattle.mg_bson.specs.Tree.{Fields}
-use Rattle.mg_link.specs.Commands.{asked, asks_more, batch_of}
+use Rattle.mg_server.specs.Commands.{asked, asks_more, batch_of}
 use Rattle.mg_link.specs.Errors.{plain}
 use Rattle.mg_link.specs.Exec.{Runs, Sending, Stage, first, second, unsent, IsFirstTry}
 use Rattle.mg_link.specs.Link.{Awaited, LogTold}
-use Rattle.mg_link.specs.Reader.{Fetching, ReadMoved, Reader, fetching, still}
+use Rattle.mg_server.specs.Reader.{Fetching, ReadMoved, Reader, fetching, still}
 use Rattle.mg_link.specs.Session.{Session}
-use Rattle.mg_link.specs.Step.{ends_cursor}
+use Rattle.mg_server.specs.Step.{ends_cursor}
 use Rattle.mg_link.specs.declared.action.Step.{Step}
 use Rattle.mg_link.specs.declared.action.Step.TheVariants as step
 use Rattle.mg_link.specs.declared.error.Error.{Error}
 use Rattle.mg_link.specs.declared.error.ErrorKind.{ErrorKind}
 use Rattle.mg_link.specs.declared.error.ErrorKind.TheVariants as kind
-use Rattle.mg_link.proofs.Execs.{runs_of}
-use Rattle.mg_link.proofs.Fetching.{reader_on}
+use Rattle.mg_exec.proofs.Execs.{runs_of}
+use Rattle.mg_server.proofs.Fetching.{reader_on}
 use Rattle.mg_link.proofs.Waits.{waits_still}
 use Rattle.mg_ops.specs.Cursors.{Cursor}
 use Rattle.mg_ops.specs.Naming.{IsNamed}

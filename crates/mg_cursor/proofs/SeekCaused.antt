@@ -1,13 +1,13 @@
 -- What the polls of a call that seeks a document are caused by.
 use Rattle.std.proofs.Common.{◌≡◌, ◌⊎◌, ◌≤◌, ℕ, zero, suc, ℤ, Bool, true, false, List, [], ◌∷◌, length, Option, Some, option_map, refl, sym, ap, ◌∙◌, subst, inl, inr, le_trans}
-use Rattle.mg_link.specs.Calls.{Grows, IsOwn, Keeps, Past, past_of}
+use Rattle.mg_server.specs.Calls.{Grows, IsOwn, Keeps, Past, past_of}
 use Rattle.mg_link.specs.Link.{Awaited, LogTold}
 use Rattle.mg_link.specs.Log.{Call}
 use Rattle.mg_link.specs.Moment.{Ending, pending, finished, failed}
 use Rattle.mg_link.specs.Session.{Session, after_command}
 use Rattle.mg_link.specs.declared.error.Error.{Error}
-use Rattle.mg_link.proofs.Calls.{keeps_longer, keeps_on, log_grows, same_keeps}
-use Rattle.mg_link.proofs.Pasts.{flies_grows, heard_reply, request_fails_grows}
+use Rattle.mg_server.proofs.Calls.{keeps_longer, keeps_on, log_grows, same_keeps}
+use Rattle.mg_server.proofs.Pasts.{flies_grows, heard_reply, request_fails_grows}
 use Rattle.mg_ops.specs.Failing.{FailsBy}
 use Rattle.mg_cursor.specs.Batches.{documents_of}
 use Rattle.mg_cursor.specs.Causes.{HeardMore, IsUnderway, MoreFails, NextCame, TellsNoCursor, UnderwayBy}

@@ -11,7 +11,7 @@ use Rattle.mg_bson.proofs.Lending.{body_fields, no_element, some_element, spells
 use Rattle.mg_bson.proofs.Options.{bind_some}
 use Rattle.mg_bson.proofs.Spans.{body_there, element_less, value_finds}
 use Rattle.mg_bson.proofs.Walking.{documents_front, documents_nil, no_more}
-use Rattle.mg_link.specs.Commands.{documents_in}
+use Rattle.mg_server.specs.Commands.{documents_in}
 
 -- ---- documents inside documents
 

@@ -4,7 +4,7 @@ use Rattle.mg_bson.specs.Find.{as_document, get}
 use Rattle.mg_bson.specs.Raw.{fields}
 use Rattle.mg_bson.specs.Spans.{array_inside, documents_inside}
 use Rattle.mg_bson.specs.Tree.{Fields, Items, no_items}
-use Rattle.mg_link.specs.Commands.{batch_items}
+use Rattle.mg_server.specs.Commands.{batch_items}
 use Rattle.mg_link.specs.Errors.{plain}
 use Rattle.mg_link.specs.declared.error.Error.{Error}
 use Rattle.mg_link.specs.declared.error.ErrorKind.TheVariants as kind

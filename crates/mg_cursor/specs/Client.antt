@@ -8,7 +8,7 @@ use Rattle.mg_link.specs.Exec.{Sending, unsent, ticket_of, IsFirstTry}
 use Rattle.mg_link.specs.Namespace.{Space, space}
 use Rattle.mg_link.specs.Pinned.{invalidated, is_invalid}
 use Rattle.mg_link.specs.Session.{Session}
-use Rattle.mg_link.specs.Step.{ends_cursor}
+use Rattle.mg_server.specs.Step.{ends_cursor}
 use Rattle.mg_link.specs.declared.error.Error.{Error}
 use Rattle.mg_link.specs.declared.error.ErrorKind.{ErrorKind}
 use Rattle.mg_link.specs.declared.error.ErrorKind.TheVariants as kind

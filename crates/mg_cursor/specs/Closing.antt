@@ -2,7 +2,7 @@
 use Rattle.std.specs.Prelude.{◌≡◌, ◌≢◌, ◌⊎◌, refl, ℕ, ℤ, false, List, length, Option, Some, None, Ok}
 use Rattle.std.specs.Coded.{Coded, code_by, coded×, coded_option}
 use Rattle.mg_bson.specs.Raw.{fields}
-use Rattle.mg_link.specs.Calls.{Flies, HeardBy, Keeps, NoneBroken, Past, RequestFails, past_of}
+use Rattle.mg_server.specs.Calls.{Flies, HeardBy, Keeps, NoneBroken, Past, RequestFails, past_of}
 use Rattle.mg_link.specs.Exec.{IsSuccess, Runs, Sending, second, ticket_of}
 use Rattle.mg_link.specs.Link.{Awaited, SendsNothing, LogTold}
 use Rattle.mg_link.specs.Log.{Call, reply}

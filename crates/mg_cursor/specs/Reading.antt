@@ -3,12 +3,12 @@ use Rattle.std.specs.Prelude.{◌≡◌, ◌≤◌, ◌++◌, ◌+◌, ◌||◌,
 use Rattle.mg_bson.specs.Raw.{fields}
 use Rattle.mg_bson.specs.Tree.{Fields}
 use Rattle.mg_link.specs.Exec.{Stage, unsent, first, second}
-use Rattle.mg_link.specs.History.{IsLegal, Step, state_of}
+use Rattle.mg_server.specs.History.{IsLegal, Step, state_of}
 use Rattle.mg_link.specs.Link.{Awaited}
 use Rattle.mg_link.specs.Log.{Call}
-use Rattle.mg_link.specs.Query.{Query, result as result_of}
-use Rattle.mg_link.specs.Reader.{Fetching, still, fetching, HasEnded, OpenedBy, Portion, Reader, all_in, kept_in, losses_in}
-use Rattle.mg_link.specs.Standing.{Stands}
+use Rattle.mg_server.specs.Query.{Query, result as result_of}
+use Rattle.mg_server.specs.Reader.{Fetching, still, fetching, HasEnded, OpenedBy, Portion, Reader, all_in, kept_in, losses_in}
+use Rattle.mg_server.specs.Standing.{Stands}
 use Rattle.mg_link.specs.declared.error.Error.{Error}
 use Rattle.mg_cursor.specs.Batches.{documents_of}
 use Rattle.mg_cursor.specs.Client.{ClientCursor, Doing, rests, holds, asks, is_ending}

@@ -5,7 +5,7 @@ ghost use Rattle.mg_link.specs.Acts.{IsOut};
 ghost use Rattle.mg_link.specs.Exec.{Sending, ticket_of};
 ghost use Rattle.mg_link.specs.Moment.{LinkKeeps, moment};
 ghost use Rattle.mg_link.specs.Namespace.{space};
-ghost use Rattle.mg_link.specs.Reader.{ReadMoved, Reader};
+ghost use Rattle.mg_server.specs.Reader.{ReadMoved, Reader};
 ghost use Rattle.mg_ops.specs.Failing.{CannotBeSent, FailsBy};
 ghost use Rattle.mg_ops.specs.Naming.{IsNamed};
 ghost use Rattle.mg_cursor.specs.Causes.{NextCaused};
@@ -21,10 +21,8 @@ use crate::fault::ends_cursor;
 use crate::polls::NextPoll;
 use crate::raw_batch::RawBatch;
 use mg_bson::RawDocumentBuf;
-use mg_link::{
-    Action, ClientSession, ClientSessionHandle, Error, Exec, Link, Namespace, PinnedConnection,
-    Step,
-};
+use mg_exec::Exec;
+use mg_link::{Action, ClientSession, ClientSessionHandle, Error, Link, Namespace, PinnedConnection, Step};
 use mg_ops::{CursorInformation, CursorSpecification, GetMoreResult, read_more};
 use mg_options::{ResumeToken, TokenRef};
 use std::alloc::Global;

@@ -11,7 +11,8 @@ ghost use Rattle.mg_cursor.specs.View.{client_of};
 use crate::batches::Batches;
 use crate::fault::is_memory;
 use crate::polls::NextPoll;
-use mg_link::{Action, Error, Exec, Link, Step};
+use mg_exec::Exec;
+use mg_link::{Action, Error, Link, Step};
 use std::marker::Model;
 
 /// A cursor that is being closed. A getMore on its way ends first; its failure is passed over, but for want of memory. Then one

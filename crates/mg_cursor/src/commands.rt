@@ -7,7 +7,8 @@ ghost use Rattle.mg_ops.specs.Failing.{CannotBeSent, FailsBy, HasBadSize};
 ghost use Rattle.mg_ops.specs.Sessions.{in_session};
 ghost use Rattle.mg_cursor.specs.Client.{IsNew};
 
-use mg_link::{ClientSession, Error, Exec, Namespace};
+use mg_exec::Exec;
+use mg_link::{ClientSession, Error, Namespace};
 use mg_ops::{CursorInformation, KillCursors, Operation, encode};
 use std::alloc::Global;
 

@@ -2,7 +2,7 @@
 ghost use Rattle.std.specs.Prelude.{◌≡◌, ◌↔◌, ◌⊎◌, ℕ, IsTrue, Bool, false, true, is_some};
 ghost use Rattle.mg_link.specs.Acts.{IsOut};
 ghost use Rattle.mg_link.specs.Moment.{LinkKeeps, moment};
-ghost use Rattle.mg_link.specs.Reader.{ReadMoved, Reader};
+ghost use Rattle.mg_server.specs.Reader.{ReadMoved, Reader};
 ghost use Rattle.mg_ops.specs.Naming.{IsNamed};
 ghost use Rattle.mg_link.specs.Errors.{plain};
 ghost use Rattle.mg_link.specs.declared.error.ErrorKind.TheVariants as kind;

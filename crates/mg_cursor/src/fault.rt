@@ -1,6 +1,6 @@
 //! Errors, and what is told of them.
 ghost use Rattle.std.specs.Prelude.{◌≡◌, ◌↔◌, IsTrue};
-ghost use Rattle.mg_link.specs.Step.{ends_cursor};
+ghost use Rattle.mg_server.specs.Step.{ends_cursor};
 ghost use Rattle.mg_cursor.specs.Client.{is_ending};
 
 use mg_link::{Error, ErrorKind};

@@ -1,13 +1,13 @@
 //! What the clauses of cursors come to, for those who use them.
 ghost use Rattle.std.specs.Prelude.{◌≡◌, ℕ, ℤ, Bool, List, [], Ok, Option, Some, length, pos, false};
 ghost use Rattle.mg_bson.specs.Tree.{Fields};
-ghost use Rattle.mg_link.specs.Commands.{asked, asks_query};
+ghost use Rattle.mg_server.specs.Commands.{asked, asks_query};
 ghost use Rattle.mg_link.specs.Exec.{IsSuccess};
 ghost use Rattle.mg_link.specs.Link.{Adds, Awaited, Sees, LogTold};
 ghost use Rattle.mg_link.specs.Log.{Call, Sight, reply};
-ghost use Rattle.mg_link.specs.Owner.{Passes, nobody};
-ghost use Rattle.mg_link.specs.Query.{Query};
-ghost use Rattle.mg_link.specs.Reader.{KnowsFinding, KnowsRead, Reader, finder, owner_of_reader};
+ghost use Rattle.mg_server.specs.Owner.{Passes, nobody};
+ghost use Rattle.mg_server.specs.Query.{Query};
+ghost use Rattle.mg_server.specs.Reader.{KnowsFinding, KnowsRead, Reader, finder, owner_of_reader};
 ghost use Rattle.mg_link.specs.Session.{Session};
 ghost use Rattle.mg_ops.specs.Cursors.{Cursor, Opens, cursor_of};
 ghost use Rattle.mg_ops.specs.Naming.{IsNamed};

@@ -2,7 +2,7 @@
 ghost use Rattle.std.specs.Prelude.{◌≡◌, ◌↔◌, IsTrue, Bool, None, pos};
 ghost use Rattle.mg_link.specs.Acts.{IsOut};
 ghost use Rattle.mg_link.specs.Moment.{LinkKeeps, moment};
-ghost use Rattle.mg_link.specs.Reader.{ReadMoved, Reader};
+ghost use Rattle.mg_server.specs.Reader.{ReadMoved, Reader};
 ghost use Rattle.mg_ops.specs.Naming.{IsNamed};
 ghost use Rattle.mg_cursor.specs.Causes.{NextCaused};
 ghost use Rattle.mg_cursor.specs.Client.{HasNext, client_ticket, pinned_to};

@@ -1,12 +1,12 @@
 -- What the answers of a poll are caused by, over all its steps.
 use Rattle.std.proofs.Common.{◌≡◌, ℕ, ℤ, Bool, true, false, List, [], length, Option, Some, None, refl, sym, ◌∙◌, subst, inl, inr, arith}
 use Rattle.std.specs.Prelude.{if◌then◌else◌}
-use Rattle.mg_link.specs.Calls.{Past, past_of}
+use Rattle.mg_server.specs.Calls.{Past, past_of}
 use Rattle.mg_link.specs.Link.{Awaited, LogTold}
 use Rattle.mg_link.specs.Log.{Call}
 use Rattle.mg_link.specs.declared.error.Error.{Error}
-use Rattle.mg_link.proofs.Calls.{same_keeps}
-use Rattle.mg_link.proofs.Filed.{Grew}
+use Rattle.mg_server.proofs.Calls.{same_keeps}
+use Rattle.mg_server.proofs.Filed.{Grew}
 use Rattle.mg_gridfs.specs.Calls.{Abandons, Aborts, Closes, Drives, Writes, at_work, doing_behind, ended_by, first_phase, gives_up, gives_up_close, gives_up_write, goes_on, kept, landing_of, not_taken, refused, starts, with_bytes, write_in_progress, wrote_by}
 use Rattle.mg_gridfs.specs.Causes as causes
 use Rattle.mg_gridfs.specs.Causes.{AbortCame, AbortCaused, CloseCame, CloseCaused, IsCausedFirst, IsUploading, PhaseUnderway, UnderwayBy, WriteCame, WriteCaused}

@@ -4,19 +4,20 @@ use Rattle.std.proofs.lemmas.List.{length-take-le}
 use Rattle.std.specs.Prelude.{option_map}
 use Rattle.mg_bson.specs.Raw.{fields}
 use Rattle.mg_bson.specs.Tree.{Fields}
-use Rattle.mg_link.specs.Calls.{Came, Flies, Grows, Past, past_of, was_broken}
+use Rattle.mg_server.specs.Calls.{Came, Flies, Grows, Past, past_of, was_broken}
 use Rattle.mg_link.specs.Exec.{Runs, Sending, Stage}
-use Rattle.mg_link.specs.Files.{AreChunks, chunked}
+use Rattle.mg_link.specs.Chunks.{chunked}
+use Rattle.mg_server.specs.Files.{AreChunks}
 use Rattle.mg_link.specs.Link.{Awaited, SendsNothing, LogTold}
 use Rattle.mg_link.specs.Log.{Call, reply}
 use Rattle.mg_link.specs.declared.action.Step.{Step}
 use Rattle.mg_link.specs.declared.action.Step.TheVariants as came
 use Rattle.mg_link.specs.declared.error.Error.{Error}
-use Rattle.mg_link.proofs.Calls.{RequestRan, keeps_longer, keeps_on, log_grows, request_ran, same_keeps, success_ran}
-use Rattle.mg_link.proofs.Chunking.{length-chunked}
-use Rattle.mg_link.proofs.Filed.{Grew}
-use Rattle.mg_link.proofs.Owners.{same_some}
-use Rattle.mg_link.proofs.Pasts.{fails_anyhow, heard_by, request_fails_grows}
+use Rattle.mg_server.proofs.Calls.{RequestRan, keeps_longer, keeps_on, log_grows, request_ran, same_keeps, success_ran}
+use Rattle.mg_server.proofs.Chunking.{length-chunked}
+use Rattle.mg_server.proofs.Filed.{Grew}
+use Rattle.mg_server.proofs.Owners.{same_some}
+use Rattle.mg_server.proofs.Pasts.{fails_anyhow, heard_by, request_fails_grows}
 use Rattle.mg_link.proofs.Waits.{waits_still}
 use Rattle.mg_options.specs.Fields.{Line, fields_in}
 use Rattle.mg_ops.specs.Failing.{CannotBeSent, FailsBy}

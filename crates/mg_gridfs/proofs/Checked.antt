@@ -1,7 +1,7 @@
 -- What an index check is caused by, step by step, and one that is given up.
 use Rattle.std.proofs.Common.{◌≡◌, ◌≢◌, ◌⊎◌, ◌≤◌, ℕ, zero, suc, ℤ, Bool, true, false, List, [], length, Option, Some, None, refl, sym, ap, ◌∙◌, subst, inl, inr}
 use Rattle.mg_bson.specs.Raw.{fields}
-use Rattle.mg_link.specs.Calls.{Came, Flies, Grows, Past, RequestFails, past_of, was_broken}
+use Rattle.mg_server.specs.Calls.{Came, Flies, Grows, Past, RequestFails, past_of, was_broken}
 use Rattle.mg_link.specs.Errors.{command_code}
 use Rattle.mg_link.specs.Exec.{Runs, Sending, Stage, unsent}
 use Rattle.mg_link.specs.Link.{Awaited, SendsNothing, LogTold}
@@ -10,10 +10,10 @@ use Rattle.mg_link.specs.Moment.{Ending, pending, finished, failed}
 use Rattle.mg_link.specs.declared.action.Step.{Step}
 use Rattle.mg_link.specs.declared.action.Step.TheVariants as came
 use Rattle.mg_link.specs.declared.error.Error.{Error}
-use Rattle.mg_link.proofs.Calls.{RequestRan, log_grows, request_ran, same_keeps, success_ran}
-use Rattle.mg_link.proofs.Filed.{Grew}
-use Rattle.mg_link.proofs.Pasts.{fails_anyhow, flies_grows}
-use Rattle.mg_link.proofs.Spread.{places_to, spread_back, spread_to}
+use Rattle.mg_server.proofs.Calls.{RequestRan, log_grows, request_ran, same_keeps, success_ran}
+use Rattle.mg_server.proofs.Filed.{Grew}
+use Rattle.mg_server.proofs.Pasts.{fails_anyhow, flies_grows}
+use Rattle.mg_server.proofs.Spread.{places_to, spread_back, spread_to}
 use Rattle.mg_options.specs.Fields.{Line, fields_in}
 use Rattle.mg_ops.specs.Failing.{FailsBy}
 use Rattle.mg_ops.specs.Writes.{WriteFails}

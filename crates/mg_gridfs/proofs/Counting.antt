@@ -4,9 +4,9 @@ use Rattle.std.specs.Prelude.{◌&&◌, ◌==◌, if◌then◌else◌, not, slic
 use Rattle.std.proofs.lemmas.Bool.{eq-eqb, ne_eqb}
 use Rattle.std.proofs.lemmas.List.{length-take-le, take-append-drop}
 use Rattle.std.proofs.lemmas.Nat.{mod_below}
-use Rattle.mg_link.specs.Files.{chunked, last_chunk}
-use Rattle.mg_link.proofs.Chunking.{chunked-append, chunked_full, chunked_none, chunked_short, length-chunked}
-use Rattle.mg_link.proofs.Owners.{same_some}
+use Rattle.mg_link.specs.Chunks.{chunked, last_chunk}
+use Rattle.mg_server.proofs.Chunking.{chunked-append, chunked_full, chunked_none, chunked_short, length-chunked}
+use Rattle.mg_server.proofs.Owners.{same_some}
 use Rattle.mg_link.proofs.Places.{get_joined, get_within}
 use Rattle.mg_gridfs.specs.Laws.{CutsAsCounted}
 

@@ -5,16 +5,16 @@ use Rattle.std.proofs.lemmas.List.Folds.{concat-append}
 use Rattle.mg_bson.specs.Raw.{fields, items}
 use Rattle.mg_bson.specs.Tree.{Fields}
 use Rattle.mg_link.specs.Exec.{Sending, Stage, unsent, first, second, ticket_at}
-use Rattle.mg_link.specs.Files.{Bucket, chunks_space}
+use Rattle.mg_server.specs.Files.{Bucket, chunks_space}
 use Rattle.mg_link.specs.Link.{Awaited, LogTold}
 use Rattle.mg_link.specs.Log.{Call}
-use Rattle.mg_link.specs.Owner.{Owner, Passes, nobody}
-use Rattle.mg_link.specs.Reader.{KnowsRead, Reader, coming_to, fetching}
+use Rattle.mg_server.specs.Owner.{Owner, Passes, nobody}
+use Rattle.mg_server.specs.Reader.{KnowsRead, Reader, coming_to, fetching}
 use Rattle.mg_link.specs.declared.action.Step.{Step}
 use Rattle.mg_link.specs.declared.action.Step.TheVariants as step
 use Rattle.mg_link.specs.declared.error.Error.{Error}
-use Rattle.mg_link.proofs.Apart.{passes_here, passes_on, passes_same}
-use Rattle.mg_link.proofs.Owners.{same_some}
+use Rattle.mg_server.proofs.Apart.{passes_here, passes_on, passes_same}
+use Rattle.mg_server.proofs.Owners.{same_some}
 use Rattle.mg_ops.specs.Naming.{IsNamed}
 use Rattle.mg_ops.proofs.Reading.{named_read}
 use Rattle.mg_cursor.specs.Client as client

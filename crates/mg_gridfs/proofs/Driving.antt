@@ -1,15 +1,16 @@
 -- All steps of a poll.
 use Rattle.std.proofs.Common.{◌≡◌, ◌+◌, ◌*◌, ℕ, zero, suc, ℤ, false, List, [], ◌∷◌, length, take, Option, Some, None, refl, sym, ap, ap₂, ◌∙◌, subst, inl, inr, arith}
 use Rattle.mg_bson.specs.Tree.{Fields, Tree}
-use Rattle.mg_link.specs.Calls.{past_of}
-use Rattle.mg_link.specs.Files.{Bucket, chunked}
+use Rattle.mg_server.specs.Calls.{past_of}
+use Rattle.mg_link.specs.Chunks.{chunked}
+use Rattle.mg_server.specs.Files.{Bucket}
 use Rattle.mg_link.specs.Link.{Awaited, LogTold}
 use Rattle.mg_link.specs.Log.{Call}
 use Rattle.mg_link.specs.declared.action.Step.{Step}
 use Rattle.mg_link.specs.declared.action.Step.TheVariants as came
 use Rattle.mg_link.specs.declared.error.Error.{Error}
 use Rattle.mg_link.specs.Exec.{Sending}
-use Rattle.mg_link.proofs.Filed.{Grew, grew_on}
+use Rattle.mg_server.proofs.Filed.{Grew, grew_on}
 use Rattle.mg_ops.specs.Failing.{FailsBy}
 use Rattle.mg_ops.specs.Naming.{IsNamed}
 use Rattle.mg_gridfs.specs.Buckets.{IsAt}

@@ -12,8 +12,8 @@ use Rattle.mg_bson.specs.Literal.{◌⇒◌⨾◌, empty}
 use Rattle.mg_bson.specs.Tree.{Fields, Tree, binary, int32, object_id}
 use Rattle.mg_bson.specs.declared.kind.Kind.{Kind}
 use Rattle.mg_bson.proofs.Numbers.{length-le32}
-use Rattle.mg_link.specs.Files.{chunked}
-use Rattle.mg_link.proofs.Chunking.{chunked-append, chunked_full, chunked_none, length-chunked}
+use Rattle.mg_link.specs.Chunks.{chunked}
+use Rattle.mg_server.proofs.Chunking.{chunked-append, chunked_full, chunked_none, length-chunked}
 use Rattle.mg_ops.specs.InsertCauses.{FitTogether, max_piece, total}
 use Rattle.mg_ops.specs.Limits.{max_documents}
 use Rattle.mg_gridfs.specs.Commands.{chunk_document, chunk_documents}

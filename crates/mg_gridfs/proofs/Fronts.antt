@@ -1,14 +1,14 @@
 -- What the reader of a query's result knows that lost nothing: the documents it received are the first of the result, and at its end all.
 use Rattle.std.proofs.Common.{◌≡◌, ◌≤◌, ◌<◌, ◌++◌, ◌+◌, ℕ, suc, ℤ, pos, Bool, true, false, List, [], ◌∷◌, length, take, Some, refl, sym, ap, ◌∙◌, subst, inl, inr, arith}
 use Rattle.mg_bson.specs.Tree.{Fields}
-use Rattle.mg_link.specs.History.{Step, state_of}
+use Rattle.mg_server.specs.History.{Step, state_of}
 use Rattle.mg_link.specs.Log.{Call}
-use Rattle.mg_link.specs.Owner.{Onward, Owner, Owns, Passes, by_id, by_reply, nobody}
-use Rattle.mg_link.specs.Query.{Query, result}
-use Rattle.mg_link.specs.Reader.{FactsOf, HasEnded, KnowsRead, Portion, Reader, all_in, kept_in, kept_of, losses_in, one_lost}
-use Rattle.mg_link.proofs.Apart.{holds_nobody}
+use Rattle.mg_server.specs.Owner.{Onward, Owner, Owns, Passes, by_id, by_reply, nobody}
+use Rattle.mg_server.specs.Query.{Query, result}
+use Rattle.mg_server.specs.Reader.{FactsOf, HasEnded, KnowsRead, Portion, Reader, all_in, kept_in, kept_of, losses_in, one_lost}
+use Rattle.mg_server.proofs.Apart.{holds_nobody}
 use Rattle.mg_link.proofs.Places.{get_within}
-use Rattle.mg_link.proofs.Readers.{fixed_kept}
+use Rattle.mg_server.proofs.Readers.{fixed_kept}
 use Rattle.mg_gridfs.specs.Downloaded.{IsFront}
 
 all_kept : (ps : List Portion) → losses_in ps ≤ 0 → kept_in ps ≡ all_in ps

@@ -5,14 +5,14 @@ use Rattle.std.specs.List.{concat}
 use Rattle.std.proofs.lemmas.Bool.Decides.{Decides-int_eq}
 use Rattle.std.proofs.lemmas.List.{take_at}
 use Rattle.mg_bson.specs.Tree.{Tree}
-use Rattle.mg_link.specs.Files.{Bucket, chunks_space, files_space}
+use Rattle.mg_server.specs.Files.{Bucket, chunks_space, files_space}
 use Rattle.mg_link.specs.Link.{Awaited, LogTold}
 use Rattle.mg_link.specs.Log.{Call}
-use Rattle.mg_link.specs.Owner.{Onward, Owner, Passes, nobody}
-use Rattle.mg_link.specs.Query.{Query}
-use Rattle.mg_link.proofs.Apart.{holds_nobody, passes_here, passes_on, passes_same}
-use Rattle.mg_link.proofs.Owners.{same_some}
-use Rattle.mg_link.proofs.Readers.{reader_kept}
+use Rattle.mg_server.specs.Owner.{Onward, Owner, Passes, nobody}
+use Rattle.mg_server.specs.Query.{Query}
+use Rattle.mg_server.proofs.Apart.{holds_nobody, passes_here, passes_on, passes_same}
+use Rattle.mg_server.proofs.Owners.{same_some}
+use Rattle.mg_server.proofs.Readers.{reader_kept}
 use Rattle.mg_cursor.specs.Client as client
 use Rattle.mg_cursor.specs.Client.{ClientCursor, HasNext, client_ticket}
 use Rattle.mg_cursor.specs.Reading.{in_reply, reader_in}

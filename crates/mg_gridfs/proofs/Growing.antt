@@ -1,11 +1,11 @@
 -- What a download and its opening are caused by, at a later time.
 use Rattle.std.proofs.Common.{◌≡◌, ℕ, true, Option, Some, None, refl, sym, subst}
 use Rattle.mg_bson.specs.Tree.{Tree}
-use Rattle.mg_link.specs.Calls.{Grows, Past}
+use Rattle.mg_server.specs.Calls.{Grows, Past}
 use Rattle.mg_link.specs.Link.{Awaited}
 use Rattle.mg_link.specs.declared.error.Error.{Error}
-use Rattle.mg_link.proofs.Calls.{HoldsOwn, own_by}
-use Rattle.mg_link.proofs.Pasts.{flies_grows, request_fails_grows}
+use Rattle.mg_server.proofs.Calls.{HoldsOwn, own_by}
+use Rattle.mg_server.proofs.Pasts.{flies_grows, request_fails_grows}
 use Rattle.mg_options.specs.Fields.{fields_in}
 use Rattle.mg_cursor.specs.Causes.{TellsNoCursor, UnderwayBy}
 use Rattle.mg_cursor.specs.Client as client

@@ -3,10 +3,10 @@ use Rattle.std.proofs.Common.{List}
 use Rattle.mg_link.specs.Exec.{Stage, first, second, unsent}
 use Rattle.mg_link.specs.Link.{Awaited}
 use Rattle.mg_link.specs.Log.{Call}
-use Rattle.mg_link.specs.Owner.{Holds}
-use Rattle.mg_link.specs.Query.{Query}
-use Rattle.mg_link.specs.Reader.{FindingAt, finder_at}
-use Rattle.mg_link.proofs.Apart.{holds_nobody}
+use Rattle.mg_server.specs.Owner.{Holds}
+use Rattle.mg_server.specs.Query.{Query}
+use Rattle.mg_server.specs.Reader.{FindingAt, finder_at}
+use Rattle.mg_server.proofs.Apart.{holds_nobody}
 use Rattle.mg_gridfs.specs.Buckets.{ClientBucket}
 use Rattle.mg_gridfs.specs.Checks.{ClientCheck, creates, finds, indexes, lists, reads}
 use Rattle.mg_gridfs.specs.Cursors.{KnowsAt, KnowsCheck, KnowsCursors, KnowsFlight, KnowsIn, check_owner, flight_owner, indexes_query, owner_by, phase_owner, upload_owner}

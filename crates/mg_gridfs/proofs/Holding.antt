@@ -4,24 +4,25 @@ use Rattle.std.specs.Prelude.{◌==◌, Err, Ok, codes, if◌then◌else◌, sli
 use Rattle.std.proofs.lemmas.Bool.{ne_eqb}
 use Rattle.mg_bson.specs.Raw.{fields}
 use Rattle.mg_bson.specs.Tree.{Fields, Tree}
-use Rattle.mg_link.specs.Calls.{Past, past_of}
-use Rattle.mg_link.specs.Commands.{asked, asks_delete, told}
+use Rattle.mg_server.specs.Calls.{Past, past_of}
+use Rattle.mg_server.specs.Commands.{asked, asks_delete, told}
 use Rattle.mg_link.specs.Exec.{Sending, Stage, first, second, ticket_at, unsent}
-use Rattle.mg_link.specs.Files.{AreChunks, Bucket, File, IsWhole, chunked, file_of, has_value}
-use Rattle.mg_link.specs.Filing.{FileAs, Filing, HasDeleted, HasInserted, KnowsFile, OthersLeave, insert_at, part, whole_with}
-use Rattle.mg_link.specs.Follow.{CameAs}
-use Rattle.mg_link.specs.History.{Step, IsLegal, state_of, told_at}
+use Rattle.mg_link.specs.Chunks.{chunked}
+use Rattle.mg_server.specs.Files.{AreChunks, Bucket, File, IsWhole, file_of, has_value}
+use Rattle.mg_server.specs.Filing.{FileAs, Filing, HasDeleted, HasInserted, KnowsFile, OthersLeave, insert_at, part, whole_with}
+use Rattle.mg_server.specs.Follow.{CameAs}
+use Rattle.mg_server.specs.History.{Step, IsLegal, state_of, told_at}
 use Rattle.mg_link.specs.Link.{Awaited}
 use Rattle.mg_link.specs.Log.{Call}
-use Rattle.mg_link.specs.Owner.{IsOf, Onward, nobody}
-use Rattle.mg_link.specs.Standing.{Stands}
-use Rattle.mg_link.specs.State.{State}
-use Rattle.mg_link.specs.Step.{May}
+use Rattle.mg_server.specs.Owner.{IsOf, Onward, nobody}
+use Rattle.mg_server.specs.Standing.{Stands}
+use Rattle.mg_server.specs.State.{State}
+use Rattle.mg_server.specs.Step.{May}
 use Rattle.mg_link.specs.declared.error.Malformed.TheVariants as malformed
-use Rattle.mg_link.proofs.Apart.{onward_refl}
-use Rattle.mg_link.proofs.Chunking.{removal_elsewhere, removal_leaves, removal_takes}
-use Rattle.mg_link.proofs.Filing.{AreOwn, file_begins, file_kept}
-use Rattle.mg_link.proofs.Owners.{grown_refl, same_some}
+use Rattle.mg_server.proofs.Apart.{onward_refl}
+use Rattle.mg_server.proofs.Chunking.{removal_elsewhere, removal_leaves, removal_takes}
+use Rattle.mg_server.proofs.Filing.{AreOwn, file_begins, file_kept}
+use Rattle.mg_server.proofs.Owners.{grown_refl, same_some}
 use Rattle.mg_link.proofs.Places.{get_some, get_within}
 use Rattle.mg_options.specs.Fields.{fields_in}
 use Rattle.mg_records.specs.FileRecords.{FileRecord, file_record_of}

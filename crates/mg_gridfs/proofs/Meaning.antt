@@ -6,15 +6,15 @@ use Rattle.std.proofs.lemmas.Slice.Eq.{bytes_eq-Decides}
 use Rattle.mg_bson.specs.Raw.{fields}
 use Rattle.mg_bson.specs.Reading.{◌>>=◌}
 use Rattle.mg_bson.specs.Tree.{Fields, Tree}
-use Rattle.mg_link.specs.Commands.{Asked, asked, asked_by, asks_create, asks_delete, asks_indexes, asks_insert, asks_more, asks_other, asks_query, find_fields, find_of, find_query, has_only, space_at, told}
+use Rattle.mg_server.specs.Commands.{Asked, asked, asked_by, asks_create, asks_delete, asks_indexes, asks_insert, asks_more, asks_other, asks_query, find_fields, find_of, find_query, has_only, space_at, told}
 use Rattle.mg_link.specs.Exec.{IsSuccess}
-use Rattle.mg_link.specs.Files.{AreChunks, Bucket, Spares, chunks_space, files_space, has_value, with_value}
-use Rattle.mg_link.specs.Filing.{Clears, HasDeleted, HasInserted, Leaves, Makes, part, whole_with}
-use Rattle.mg_link.specs.Filter.{key, meets}
+use Rattle.mg_server.specs.Files.{AreChunks, Bucket, Spares, chunks_space, files_space, has_value, with_value}
+use Rattle.mg_server.specs.Filing.{Clears, HasDeleted, HasInserted, Leaves, Makes, part, whole_with}
+use Rattle.mg_server.specs.Filter.{key, meets}
 use Rattle.mg_link.specs.Namespace.{Space}
-use Rattle.mg_link.specs.Query.{Query, of_indexes}
-use Rattle.mg_link.proofs.Chunking.{file_deleted, file_inserted, file_recorded}
-use Rattle.mg_link.proofs.Files.{parts_stay, spared_stay}
+use Rattle.mg_server.specs.Query.{Query, of_indexes}
+use Rattle.mg_server.proofs.Chunking.{file_deleted, file_inserted, file_recorded}
+use Rattle.mg_server.proofs.Files.{parts_stay, spared_stay}
 use Rattle.mg_options.specs.Fields.{fields_in}
 use Rattle.mg_ops.specs.Naming.{IsNamed}
 use Rattle.mg_ops.specs.Pieces.{keys_onto}

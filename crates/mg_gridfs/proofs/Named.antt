@@ -2,12 +2,12 @@
 use Rattle.std.proofs.Common.{◌≡◌, ℕ, zero, suc, ℤ, true, false, Bool, List, [], ◌∷◌, Option, None, refl, sym, ap, ◌∙◌, subst, inl, inr}
 use Rattle.std.specs.Prelude.{codes}
 use Rattle.mg_bson.specs.Tree.{Fields, Tree}
-use Rattle.mg_link.specs.Commands.{Asked, asked, asks_create, asks_delete, asks_indexes, asks_insert}
+use Rattle.mg_server.specs.Commands.{Asked, asked, asks_create, asks_delete, asks_indexes, asks_insert}
 use Rattle.mg_link.specs.Exec.{Sending}
-use Rattle.mg_link.specs.Files.{has_value}
+use Rattle.mg_server.specs.Files.{has_value}
 use Rattle.mg_link.specs.Link.{Awaited, LogTold}
 use Rattle.mg_link.specs.Session.{Session}
-use Rattle.mg_link.specs.Standing.{Names}
+use Rattle.mg_server.specs.Standing.{Names}
 use Rattle.mg_ops.specs.Naming.{IsNamed}
 use Rattle.mg_ops.proofs.Asking.{asks_to_insert}
 use Rattle.mg_ops.proofs.AskingMore.{asks_to_create, asks_to_delete, asks_to_index}

@@ -5,11 +5,11 @@ use Rattle.std.specs.Str.{bytes_eq}
 use Rattle.std.proofs.lemmas.Slice.Eq.{bytes_eq-Decides}
 use Rattle.mg_bson.specs.Find.{get}
 use Rattle.mg_bson.specs.Tree.{Fields, Tree, item, no_items}
-use Rattle.mg_link.specs.Files.{Bucket, by_number, chunks_space, file_of, files_space, has_value}
-use Rattle.mg_link.specs.Filter.{Condition, key, meets, one_of}
-use Rattle.mg_link.specs.Query.{sorted}
-use Rattle.mg_link.specs.State.{State}
-use Rattle.mg_link.specs.Step.{documents_of}
+use Rattle.mg_server.specs.Files.{Bucket, by_number, chunks_space, file_of, files_space, has_value}
+use Rattle.mg_server.specs.Filter.{Condition, key, meets, one_of}
+use Rattle.mg_server.specs.Query.{sorted}
+use Rattle.mg_server.specs.State.{State}
+use Rattle.mg_server.specs.Step.{documents_of}
 
 -- ---- filters
 

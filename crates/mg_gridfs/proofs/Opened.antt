@@ -1,16 +1,16 @@
 -- What the answers of an opening of a download are caused by.
 use Rattle.std.proofs.Common.{◌≡◌, ◌≤◌, ℕ, ℤ, true, List, length, Option, Some, None, refl, sym, ap, ◌∙◌, subst, inl, inr, arith}
-use Rattle.mg_link.specs.Calls.{Came, Flies, Grows, Keeps, Past, past_of, was_broken}
+use Rattle.mg_server.specs.Calls.{Came, Flies, Grows, Keeps, Past, past_of, was_broken}
 use Rattle.mg_link.specs.Exec.{Runs, Sending, Stage, unsent}
 use Rattle.mg_link.specs.Link.{Awaited, SendsNothing, LogTold}
 use Rattle.mg_link.specs.Log.{Call, reply}
 use Rattle.mg_link.specs.declared.action.Step.{Step}
 use Rattle.mg_link.specs.declared.action.Step.TheVariants as came
 use Rattle.mg_link.specs.declared.error.Error.{Error}
-use Rattle.mg_link.proofs.Calls.{RequestRan, keeps_on, request_ran, same_keeps, success_ran}
-use Rattle.mg_link.proofs.Filed.{Grew}
-use Rattle.mg_link.proofs.Owners.{same_some}
-use Rattle.mg_link.proofs.Pasts.{fails_anyhow, heard_by, heard_reply}
+use Rattle.mg_server.proofs.Calls.{RequestRan, keeps_on, request_ran, same_keeps, success_ran}
+use Rattle.mg_server.proofs.Filed.{Grew}
+use Rattle.mg_server.proofs.Owners.{same_some}
+use Rattle.mg_server.proofs.Pasts.{fails_anyhow, heard_by, heard_reply}
 use Rattle.mg_options.specs.Fields.{Line, fields_in}
 use Rattle.mg_ops.specs.Failing.{FailsBy}
 use Rattle.mg_cursor.specs.Causes.{TellsNoCursor}

@@ -3,23 +3,23 @@ use Rattle.std.proofs.Common.{◌≡◌, ◌⊎◌, ◌<◌, ◌≤◌, ℕ, zer
 use Rattle.std.specs.Prelude.{negsuc, option_and_then, unwrap_or}
 use Rattle.mg_bson.specs.Raw.{fields}
 use Rattle.mg_bson.specs.Tree.{Fields, Items, Tree}
-use Rattle.mg_link.specs.Commands.{Asked, Batch, asked, asked_by, asks_other, asks_query, batch_of, documents_in, find_of, garbled, opened_by, space_at, time_in, told, told_by}
+use Rattle.mg_server.specs.Commands.{Asked, Batch, asked, asked_by, asks_other, asks_query, batch_of, documents_in, find_of, garbled, opened_by, space_at, time_in, told, told_by}
 use Rattle.mg_link.specs.Exec.{IsSuccess, Runs, Sending, Stage, first, second, unsent}
-use Rattle.mg_link.specs.Files.{Bucket, chunks_space, files_space}
-use Rattle.mg_link.specs.Follow.{Reads}
+use Rattle.mg_server.specs.Files.{Bucket, chunks_space, files_space}
+use Rattle.mg_server.specs.Follow.{Reads}
 use Rattle.mg_link.specs.Link.{Awaited, SendsNothing, LogTold}
 use Rattle.mg_link.specs.Log.{Call}
 use Rattle.mg_link.specs.Namespace.{Space, space}
-use Rattle.mg_link.specs.Owner.{IsGrown, IsOf, Owner, Passes, nobody}
-use Rattle.mg_link.specs.Query.{Query}
-use Rattle.mg_link.specs.Reader.{FindingAt, KnowsRead, Reader, finder_at, opened_at, owner_of_reader}
+use Rattle.mg_server.specs.Owner.{IsGrown, IsOf, Owner, Passes, nobody}
+use Rattle.mg_server.specs.Query.{Query}
+use Rattle.mg_server.specs.Reader.{FindingAt, KnowsRead, Reader, finder_at, opened_at, owner_of_reader}
 use Rattle.mg_link.specs.declared.action.Step.{Step as Polled}
 use Rattle.mg_link.specs.declared.action.Step.TheVariants as came
-use Rattle.mg_link.proofs.Apart.{holds_nobody, passes_on, passes_same}
-use Rattle.mg_link.proofs.Calls.{success_ran}
-use Rattle.mg_link.proofs.Finds as link_finds
-use Rattle.mg_link.proofs.Finds.{CameKnown, IsAtOwn, query_ran}
-use Rattle.mg_link.proofs.Owners.{same_some}
+use Rattle.mg_server.proofs.Apart.{holds_nobody, passes_on, passes_same}
+use Rattle.mg_server.proofs.Calls.{success_ran}
+use Rattle.mg_server.proofs.Finds as link_finds
+use Rattle.mg_server.proofs.Finds.{CameKnown, IsAtOwn, query_ran}
+use Rattle.mg_server.proofs.Owners.{same_some}
 use Rattle.mg_link.proofs.Places.{get_some, get_within}
 use Rattle.mg_options.specs.Fields.{fields_in}
 use Rattle.mg_ops.specs.Bodies.{find_body}

@@ -2,13 +2,13 @@
 use Rattle.std.proofs.Common.{◌≡◌, ℕ, false, List, ◌∷◌, Some, refl, sym, ◌∙◌, subst}
 use Rattle.mg_bson.specs.Tree.{Tree}
 use Rattle.mg_link.specs.Exec.{Stage, first, second, ticket_at, unsent}
-use Rattle.mg_link.specs.Files.{Bucket, chunks_space, files_space}
+use Rattle.mg_server.specs.Files.{Bucket, chunks_space, files_space}
 use Rattle.mg_link.specs.Link.{Awaited}
 use Rattle.mg_link.specs.Log.{Call}
-use Rattle.mg_link.specs.Owner.{Holds, Onward}
-use Rattle.mg_link.specs.Query.{Query}
-use Rattle.mg_link.specs.Reader.{FindingAt, KnowsFinding, finder_at}
-use Rattle.mg_link.proofs.Apart.{holds_nobody}
+use Rattle.mg_server.specs.Owner.{Holds, Onward}
+use Rattle.mg_server.specs.Query.{Query}
+use Rattle.mg_server.specs.Reader.{FindingAt, KnowsFinding, finder_at}
+use Rattle.mg_server.proofs.Apart.{holds_nobody}
 use Rattle.mg_gridfs.specs.Downloaded.{KnowsBy, doing_owner, LookingKnown, StandsBehind, chunks_query, looking_owner, record_query}
 use Rattle.mg_gridfs.specs.Downloads.{ClientDownload, Doing, ended, idle, reads, spoiled}
 use Rattle.mg_gridfs.specs.Findings.{Looking, finds, lists, starts, ticket_by}

@@ -3,21 +3,21 @@ use Rattle.std.proofs.Common.{◌≡◌, ℕ, ℤ, true, false, Bool, List, [], 
 use Rattle.std.specs.Prelude.{option_map, unwrap_or}
 use Rattle.mg_bson.specs.Raw.{fields}
 use Rattle.mg_bson.specs.Tree.{Fields}
-use Rattle.mg_link.specs.Commands.{documents_in}
+use Rattle.mg_server.specs.Commands.{documents_in}
 use Rattle.mg_link.specs.Exec.{IsSuccess, Runs, Sending, unsent}
 use Rattle.mg_link.specs.Link.{Awaited, LogTold}
 use Rattle.mg_link.specs.Log.{Call}
 use Rattle.mg_link.specs.Namespace.{space}
-use Rattle.mg_link.specs.Owner.{Owner, Passes, PassesPlain, nobody}
-use Rattle.mg_link.specs.Query.{Query}
-use Rattle.mg_link.specs.Reader.{FindingAt, KnowsRead, Reader, finder_at, opened_at, owner_of_reader}
+use Rattle.mg_server.specs.Owner.{Owner, Passes, PassesPlain, nobody}
+use Rattle.mg_server.specs.Query.{Query}
+use Rattle.mg_server.specs.Reader.{FindingAt, KnowsRead, Reader, finder_at, opened_at, owner_of_reader}
 use Rattle.mg_link.specs.declared.action.Step.{Step}
 use Rattle.mg_link.specs.declared.action.Step.TheVariants as came
-use Rattle.mg_link.proofs.Apart.{passes_here, passes_on}
-use Rattle.mg_link.proofs.Calls.{success_ran}
-use Rattle.mg_link.proofs.Finds as link_finds
-use Rattle.mg_link.proofs.Finds.{CameKnown, IsAtOwn, query_ran}
-use Rattle.mg_link.proofs.Killing.{plain_ran}
+use Rattle.mg_server.proofs.Apart.{passes_here, passes_on}
+use Rattle.mg_server.proofs.Calls.{success_ran}
+use Rattle.mg_server.proofs.Finds as link_finds
+use Rattle.mg_server.proofs.Finds.{CameKnown, IsAtOwn, query_ran}
+use Rattle.mg_server.proofs.Killing.{plain_ran}
 use Rattle.mg_options.specs.Fields.{Line}
 use Rattle.mg_ops.specs.Cursors.{Cursor, OpensWith}
 use Rattle.mg_ops.specs.Naming.{IsNamed}

@@ -4,14 +4,14 @@ use Rattle.std.specs.Prelude.{if◌then◌else◌, option_map}
 use Rattle.mg_link.specs.Exec.{Sending, Stage, first, second, ticket_at, unsent}
 use Rattle.mg_link.specs.Link.{Awaited, SendsNothing, LogTold}
 use Rattle.mg_link.specs.Log.{Call}
-use Rattle.mg_link.specs.Owner.{Holds, Owner, Passes, PassesPlain, nobody}
-use Rattle.mg_link.specs.Query.{Query}
-use Rattle.mg_link.specs.Reader.{FindingAt, KnowsFinding, KnowsRead, finder, finder_at}
+use Rattle.mg_server.specs.Owner.{Holds, Owner, Passes, PassesPlain, nobody}
+use Rattle.mg_server.specs.Query.{Query}
+use Rattle.mg_server.specs.Reader.{FindingAt, KnowsFinding, KnowsRead, finder, finder_at}
 use Rattle.mg_link.specs.declared.action.Step.{Step}
 use Rattle.mg_link.specs.declared.action.Step.TheVariants as came
 use Rattle.mg_link.specs.declared.error.Error.{Error}
-use Rattle.mg_link.proofs.Apart.{holds_nobody, passes_on, passes_same}
-use Rattle.mg_link.proofs.Killing.{plain_ran, plain_stayed}
+use Rattle.mg_server.proofs.Apart.{holds_nobody, passes_on, passes_same}
+use Rattle.mg_server.proofs.Killing.{plain_ran, plain_stayed}
 use Rattle.mg_ops.specs.Naming.{IsNamed}
 use Rattle.mg_cursor.specs.Client.{client_ticket}
 use Rattle.mg_cursor.specs.Documents.{DocumentCursor}

@@ -1,16 +1,17 @@
 -- What an upload knows of its file, over all steps of a poll.
 use Rattle.std.proofs.Common.{◌≡◌, ℕ, ℤ, Bool, true, false, List, [], ◌∷◌, ◌++◌, length, Option, Some, None, refl, sym, ap, ◌∙◌, subst, inl, inr, append_assoc}
 use Rattle.std.specs.Prelude.{if◌then◌else◌}
-use Rattle.mg_link.specs.Calls.{Past, past_of}
+use Rattle.mg_server.specs.Calls.{Past, past_of}
 use Rattle.mg_link.specs.Exec.{Stage, first, second, ticket_at, unsent}
-use Rattle.mg_link.specs.Files.{AreChunks, Bucket, File, chunked}
-use Rattle.mg_link.specs.Filing.{Filing, KnowsFile, becomes, cleared, clears, insert_at, part, removal_at, stays, unknown, whole_with}
+use Rattle.mg_link.specs.Chunks.{chunked}
+use Rattle.mg_server.specs.Files.{AreChunks, Bucket, File}
+use Rattle.mg_server.specs.Filing.{Filing, KnowsFile, becomes, cleared, clears, insert_at, part, removal_at, stays, unknown, whole_with}
 use Rattle.mg_link.specs.Link.{Awaited, SendsNothing, LogTold}
 use Rattle.mg_link.specs.Log.{Call}
 use Rattle.mg_link.specs.declared.error.Error.{Error}
-use Rattle.mg_link.proofs.Calls.{same_keeps}
-use Rattle.mg_link.proofs.Filed.{Grew, grew_as}
-use Rattle.mg_link.proofs.Filing.{file_unknown}
+use Rattle.mg_server.proofs.Calls.{same_keeps}
+use Rattle.mg_server.proofs.Filed.{Grew, grew_as}
+use Rattle.mg_server.proofs.Filing.{file_unknown}
 use Rattle.mg_ops.specs.Naming.{IsNamed}
 use Rattle.mg_gridfs.specs.Buckets.{IsAt}
 use Rattle.mg_gridfs.specs.Calls as calls_of

@@ -7,22 +7,23 @@ use Rattle.std.proofs.lemmas.List.Folds.{concat-append}
 use Rattle.mg_bson.specs.Find.{as_binary, as_date_time, as_document, as_string, get}
 use Rattle.mg_bson.specs.Reading.{◌>>=◌}
 use Rattle.mg_bson.specs.Tree.{Fields, Tree}
-use Rattle.mg_link.specs.Commands.{as_count, as_integer, count_of}
-use Rattle.mg_link.specs.Files.{AreChunks, Bucket, File, IsChunk, IsWhole, LeavesFile, by_number, chunked, chunks_space, file_of, files_space, has_value, with_value}
-use Rattle.mg_link.specs.Filter.{Condition, matches, meets}
-use Rattle.mg_link.specs.History.{IsLegal, Step, state_of}
+use Rattle.mg_link.specs.Numbers.{as_count, as_integer, count_of}
+use Rattle.mg_link.specs.Chunks.{chunked}
+use Rattle.mg_server.specs.Files.{AreChunks, Bucket, File, IsChunk, IsWhole, LeavesFile, by_number, chunks_space, file_of, files_space, has_value, with_value}
+use Rattle.mg_server.specs.Filter.{Condition, matches, meets}
+use Rattle.mg_server.specs.History.{IsLegal, Step, state_of}
 use Rattle.mg_link.specs.Link.{Awaited}
 use Rattle.mg_link.specs.Log.{Call}
 use Rattle.mg_link.specs.Namespace.{Space}
-use Rattle.mg_link.specs.Query.{Query, can_sort, result, sorted, through}
-use Rattle.mg_link.specs.Standing.{Stands}
-use Rattle.mg_link.specs.State.{State}
-use Rattle.mg_link.specs.Step.{documents_of}
+use Rattle.mg_server.specs.Query.{Query, can_sort, result, sorted, through}
+use Rattle.mg_server.specs.Standing.{Stands}
+use Rattle.mg_server.specs.State.{State}
+use Rattle.mg_server.specs.Step.{documents_of}
 use Rattle.mg_link.specs.declared.error.Error.{Error}
 use Rattle.mg_link.specs.declared.error.Malformed.{Malformed}
 use Rattle.mg_link.specs.declared.error.Malformed.TheVariants as malformed
-use Rattle.mg_link.proofs.Files.{chunks_join, quiet_stays}
-use Rattle.mg_link.proofs.Owners.{same_some, state_one}
+use Rattle.mg_server.proofs.Files.{chunks_join, quiet_stays}
+use Rattle.mg_server.proofs.Owners.{same_some, state_one}
 use Rattle.mg_link.proofs.Places.{get_within}
 use Rattle.mg_cursor.specs.Client.{ClientCursor}
 use Rattle.mg_cursor.specs.Reading.{in_reply, reader_in}

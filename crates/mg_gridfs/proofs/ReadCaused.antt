@@ -1,13 +1,13 @@
 -- What the answers of a read are caused by.
 use Rattle.std.proofs.Common.{◌≡◌, ◌⊎◌, ◌≤◌, ◌+◌, ℕ, zero, suc, ℤ, Bool, true, List, [], ◌∷◌, length, Some, None, Err, refl, sym, ap, ◌∙◌, subst, inl, inr, arith}
-use Rattle.mg_link.specs.Calls.{Grows, Keeps, Past, past_of}
+use Rattle.mg_server.specs.Calls.{Grows, Keeps, Past, past_of}
 use Rattle.mg_link.specs.Link.{Awaited, LogTold}
 use Rattle.mg_link.specs.Log.{Call}
 use Rattle.mg_link.specs.declared.error.Error.{Error}
 use Rattle.mg_link.specs.declared.error.ErrorKind.TheVariants as kind
 use Rattle.mg_link.specs.Errors.{plain}
-use Rattle.mg_link.proofs.Calls.{keeps_longer, keeps_on, log_grows, same_keeps}
-use Rattle.mg_link.proofs.Owners.{same_some}
+use Rattle.mg_server.proofs.Calls.{keeps_longer, keeps_on, log_grows, same_keeps}
+use Rattle.mg_server.proofs.Owners.{same_some}
 use Rattle.mg_ops.specs.Failing.{FailsBy}
 use Rattle.mg_cursor.specs.Causes.{HeardMore, IsUnderway, MoreFails}
 use Rattle.mg_cursor.specs.Client as client

@@ -4,19 +4,20 @@ use Rattle.std.specs.Prelude.{codes, option_and_then, option_map, unwrap_or}
 use Rattle.mg_bson.specs.Find.{get}
 use Rattle.mg_bson.specs.Raw.{fields}
 use Rattle.mg_bson.specs.Tree.{Fields, Tree}
-use Rattle.mg_link.specs.Calls.{Past, past_of}
-use Rattle.mg_link.specs.Commands.{Asked, as_integer, asked, asked_by, asks_more, asks_other, more_of, space_at}
+use Rattle.mg_server.specs.Calls.{Past, past_of}
+use Rattle.mg_link.specs.Numbers.{as_integer}
+use Rattle.mg_server.specs.Commands.{Asked, asked, asked_by, asks_more, asks_other, more_of, space_at}
 use Rattle.mg_link.specs.Exec.{Runs, Sending}
-use Rattle.mg_link.specs.Files.{Bucket, File}
-use Rattle.mg_link.specs.Filing.{KnowsFile, Leaves, stays, unknown}
+use Rattle.mg_server.specs.Files.{Bucket, File}
+use Rattle.mg_server.specs.Filing.{KnowsFile, Leaves, stays, unknown}
 use Rattle.mg_link.specs.Link.{Awaited, SendsNothing, LogTold}
 use Rattle.mg_link.specs.Log.{Call}
 use Rattle.mg_link.specs.Namespace.{Space}
 use Rattle.mg_link.specs.Session.{Session}
 use Rattle.mg_link.specs.declared.action.Step.{Step}
-use Rattle.mg_link.proofs.Calls.{same_keeps}
-use Rattle.mg_link.proofs.Execs.{runs_of}
-use Rattle.mg_link.proofs.Filed.{Grew, any_ran, grew_on, read_ran}
+use Rattle.mg_server.proofs.Calls.{same_keeps}
+use Rattle.mg_exec.proofs.Execs.{runs_of}
+use Rattle.mg_server.proofs.Filed.{Grew, any_ran, grew_on, read_ran}
 use Rattle.mg_ops.specs.Naming.{IsNamed}
 use Rattle.mg_cursor.specs.Client.{ClientCursor, IsSound, SoundBy, get_more}
 use Rattle.mg_cursor.specs.Documents.{AdvancesOnce, DocumentCursor, Fills, TakesNext, broken, filled, filled_with, gives, polls}

@@ -1,19 +1,19 @@
 -- What an upload knows of its cursors goes on to hold while others call.
 use Rattle.std.proofs.Common.{◌≡◌, ◌<◌, ℕ, suc, ℤ, List, ◌++◌, length, take, Option, refl, sym, ap, ◌∙◌, inl}
-use Rattle.mg_link.specs.Commands.{Told, asked, deleted, done, garbled, gave, inserted, killed, opened, refuses, updated}
+use Rattle.mg_server.specs.Commands.{Told, asked, deleted, done, garbled, gave, inserted, killed, opened, refuses, updated}
 use Rattle.mg_link.specs.Exec.{Stage, first, second, unsent}
-use Rattle.mg_link.specs.History.{Step, state_of, told_at}
+use Rattle.mg_server.specs.History.{Step, state_of, told_at}
 use Rattle.mg_link.specs.Link.{Awaited}
 use Rattle.mg_link.specs.Log.{Call}
-use Rattle.mg_link.specs.Owner.{Onward, by_reply}
-use Rattle.mg_link.specs.Query.{Query, result}
-use Rattle.mg_link.specs.Reader.{AfterFind, FindingAt, KnowsFinding, finder, finder_at}
-use Rattle.mg_link.specs.Standing.{OpensId}
-use Rattle.mg_link.proofs.Apart.{holds_kept}
-use Rattle.mg_link.proofs.Follows.{came_back, still_of}
-use Rattle.mg_link.proofs.Owners.{same_some}
+use Rattle.mg_server.specs.Owner.{Onward, by_reply}
+use Rattle.mg_server.specs.Query.{Query, result}
+use Rattle.mg_server.specs.Reader.{AfterFind, FindingAt, KnowsFinding, finder, finder_at}
+use Rattle.mg_server.specs.Standing.{OpensId}
+use Rattle.mg_server.proofs.Apart.{holds_kept}
+use Rattle.mg_server.proofs.Follows.{came_back, still_of}
+use Rattle.mg_server.proofs.Owners.{same_some}
 use Rattle.mg_link.proofs.Places.{get_within}
-use Rattle.mg_link.proofs.Readers.{fixed_kept, holds_later, reader_kept}
+use Rattle.mg_server.proofs.Readers.{fixed_kept, holds_later, reader_kept}
 use Rattle.mg_cursor.specs.Documents.{DocumentCursor}
 use Rattle.mg_cursor.specs.Reading.{reader_of}
 use Rattle.mg_gridfs.specs.Buckets.{ClientBucket}

@@ -3,10 +3,11 @@ use Rattle.std.proofs.Common.{◌≡◌, ◌≢◌, ◌<◌, ◌+◌, ◌*◌, �
 use Rattle.std.proofs.lemmas.List.{length-take-le, take-append-drop}
 use Rattle.mg_bson.specs.Raw.{fields}
 use Rattle.mg_bson.specs.Tree.{Fields}
-use Rattle.mg_link.specs.Calls.{Past, past_of}
+use Rattle.mg_server.specs.Calls.{Past, past_of}
 use Rattle.mg_link.specs.Exec.{Runs, Sending, Stage}
-use Rattle.mg_link.specs.Files.{AreChunks, Bucket, File, chunked, last_chunk}
-use Rattle.mg_link.specs.Filing.{KnowsFile, Makes, cleared, insert_at, part, removal_at, stays, unknown, whole_with}
+use Rattle.mg_link.specs.Chunks.{chunked, last_chunk}
+use Rattle.mg_server.specs.Files.{AreChunks, Bucket, File}
+use Rattle.mg_server.specs.Filing.{KnowsFile, Makes, cleared, insert_at, part, removal_at, stays, unknown, whole_with}
 use Rattle.mg_link.specs.Link.{Awaited, SendsNothing, LogTold}
 use Rattle.mg_link.specs.Log.{Call}
 use Rattle.mg_link.specs.declared.action.Step.{Step}
@@ -15,10 +16,10 @@ use Rattle.mg_link.specs.declared.error.Error.{Error}
 use Rattle.mg_link.specs.declared.error.ErrorKind.{ErrorKind}
 use Rattle.mg_link.specs.declared.error.ErrorKind.TheVariants as kind
 use Rattle.mg_link.specs.declared.error.GridFsErrorKind.TheVariants as grid
-use Rattle.mg_link.proofs.Calls.{same_keeps, success_ran}
-use Rattle.mg_link.proofs.Chunking.{are_append, chunked-append, chunked_none, chunked_short, length-chunked}
-use Rattle.mg_link.proofs.Filed.{Grew, InsertRan, RemovalRan, any_ran, grew_as, insert_ran, removal_ran}
-use Rattle.mg_link.proofs.Filing.{file_unknown}
+use Rattle.mg_server.proofs.Calls.{same_keeps, success_ran}
+use Rattle.mg_server.proofs.Chunking.{are_append, chunked-append, chunked_none, chunked_short, length-chunked}
+use Rattle.mg_server.proofs.Filed.{Grew, InsertRan, RemovalRan, any_ran, grew_as, insert_ran, removal_ran}
+use Rattle.mg_server.proofs.Filing.{file_unknown}
 use Rattle.mg_link.proofs.Waits.{waits_still}
 use Rattle.mg_options.specs.Fields.{fields_in}
 use Rattle.mg_ops.specs.Naming.{IsNamed}

@@ -3,7 +3,7 @@ use Rattle.std.specs.Prelude.{◌≡◌, ◌<◌, ◌≤◌, ◌+◌, ◌++◌, 
 use Rattle.std.specs.List.{AllByRecursion, concat}
 use Rattle.std.specs.VecDeque.{deque_capacity, deque_len}
 use Rattle.std.specs.declared.alloc.Global.{Global}
-use Rattle.mg_link.specs.Files.{last_chunk}
+use Rattle.mg_link.specs.Chunks.{last_chunk}
 use Rattle.mg_gridfs.specs.declared.buffer.Buffer.{Buffer}
 use Rattle.mg_gridfs.specs.declared.buffer.Cut.{Cut}
 

@@ -2,10 +2,10 @@
 use Rattle.std.specs.Prelude.{◌≡◌, ◌≢◌, ◌⊎◌, ◌<◌, ◌≤◌, ◌+◌, ◌*◌, ◌^◌, ℕ, ℤ, false, true, List, [], ◌∷◌, length, Option, Some, None}
 use Rattle.mg_bson.specs.Raw.{fields}
 use Rattle.mg_bson.specs.Tree.{Fields}
-use Rattle.mg_link.specs.Calls.{Flies, HeardBy, Keeps, Past, RequestFails, past_of}
+use Rattle.mg_server.specs.Calls.{Flies, HeardBy, Keeps, Past, RequestFails, past_of}
 use Rattle.mg_link.specs.Errors.{command_code, plain}
 use Rattle.mg_link.specs.Exec.{IsSuccess}
-use Rattle.mg_link.specs.Files.{chunked}
+use Rattle.mg_link.specs.Chunks.{chunked}
 use Rattle.mg_link.specs.Link.{Awaited, LogTold}
 use Rattle.mg_link.specs.Log.{Call, reply}
 use Rattle.mg_link.specs.declared.error.Error.{Error}

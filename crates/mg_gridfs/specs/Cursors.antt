@@ -3,9 +3,9 @@ use Rattle.std.specs.Prelude.{◌≡◌, ℕ, false, List, [], Some, None}
 use Rattle.mg_link.specs.Link.{Awaited, LogTold}
 use Rattle.mg_link.specs.Log.{Call}
 use Rattle.mg_link.specs.Namespace.{Space}
-use Rattle.mg_link.specs.Owner.{Onward, Owner, Passes, nobody}
-use Rattle.mg_link.specs.Query.{Query, of_indexes}
-use Rattle.mg_link.specs.Reader.{FindingAt, KnowsRead, Reader, finder_at}
+use Rattle.mg_server.specs.Owner.{Onward, Owner, Passes, nobody}
+use Rattle.mg_server.specs.Query.{Query, of_indexes}
+use Rattle.mg_server.specs.Reader.{FindingAt, KnowsRead, Reader, finder_at}
 use Rattle.mg_ops.specs.Naming.{IsNamed}
 use Rattle.mg_cursor.specs.Documents.{DocumentCursor}
 use Rattle.mg_cursor.specs.Reading.{reader_of}

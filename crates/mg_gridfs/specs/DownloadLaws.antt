@@ -2,12 +2,13 @@
 use Rattle.std.specs.Prelude.{◌≡◌, ◌≢◌, ◌⊎◌, ◌<◌, ◌≤◌, ◌++◌, ℕ, suc, List, [], ◌∷◌, length, take, Some, Ok, slice_get}
 use Rattle.std.specs.List.{concat}
 use Rattle.mg_bson.specs.Tree.{Fields, Tree}
-use Rattle.mg_link.specs.Files.{Bucket, IsWhole, LeavesFile, chunked, file_of}
-use Rattle.mg_link.specs.History.{IsLegal, Step, state_of}
+use Rattle.mg_link.specs.Chunks.{chunked}
+use Rattle.mg_server.specs.Files.{Bucket, IsWhole, LeavesFile, file_of}
+use Rattle.mg_server.specs.History.{IsLegal, Step, state_of}
 use Rattle.mg_link.specs.Link.{Awaited}
 use Rattle.mg_link.specs.Log.{Call}
-use Rattle.mg_link.specs.Owner.{Onward}
-use Rattle.mg_link.specs.Standing.{Stands}
+use Rattle.mg_server.specs.Owner.{Onward}
+use Rattle.mg_server.specs.Standing.{Stands}
 use Rattle.mg_records.specs.FileRecords.{FileRecord, chunk_count, chunk_count_of, chunk_length, file_record_of}
 use Rattle.mg_gridfs.specs.Downloads.{ClientDownload, download_ticket, ended, received, spoiled}
 use Rattle.mg_gridfs.specs.Downloaded.{AreReceived, KnowsDownload, doing_owner}

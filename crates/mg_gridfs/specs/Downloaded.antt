@@ -3,15 +3,15 @@ use Rattle.std.specs.Prelude.{◌≡◌, ◌⊎◌, ◌<◌, ◌≤◌, ◌++◌
 use Rattle.std.specs.List.{concat}
 use Rattle.mg_bson.specs.Tree.{Fields, Tree}
 use Rattle.mg_link.specs.Exec.{Stage, unsent, first, second}
-use Rattle.mg_link.specs.Files.{Bucket, by_number, chunks_space, files_space, has_value}
-use Rattle.mg_link.specs.History.{IsLegal, Step, state_of}
+use Rattle.mg_server.specs.Files.{Bucket, by_number, chunks_space, files_space, has_value}
+use Rattle.mg_server.specs.History.{IsLegal, Step, state_of}
 use Rattle.mg_link.specs.Link.{Awaited, LogTold}
 use Rattle.mg_link.specs.Log.{Call, reply}
 use Rattle.mg_link.specs.Namespace.{Space}
-use Rattle.mg_link.specs.Owner.{IsOf, Owner, Passes, nobody}
-use Rattle.mg_link.specs.Query.{Query, limits, of_collection, result, selects, sorts}
-use Rattle.mg_link.specs.Reader.{FindingAt, KnowsRead, Reader, coming_to, finder_at}
-use Rattle.mg_link.specs.Standing.{Stands}
+use Rattle.mg_server.specs.Owner.{IsOf, Owner, Passes, nobody}
+use Rattle.mg_server.specs.Query.{Query, limits, of_collection, result, selects, sorts}
+use Rattle.mg_server.specs.Reader.{FindingAt, KnowsRead, Reader, coming_to, finder_at}
+use Rattle.mg_server.specs.Standing.{Stands}
 use Rattle.mg_ops.specs.Naming.{IsNamed}
 use Rattle.mg_cursor.specs.Client.{ClientCursor}
 use Rattle.mg_cursor.specs.Reading.{fetching_by, reader_in}

@@ -3,21 +3,22 @@ use Rattle.std.specs.Prelude.{◌≡◌, ◌⊎◌, ◌<◌, ◌≤◌, ◌*◌,
 use Rattle.std.specs.List.{filter}
 use Rattle.mg_bson.specs.Raw.{fields}
 use Rattle.mg_bson.specs.Tree.{Fields, Tree}
-use Rattle.mg_link.specs.Calls.{past_of}
-use Rattle.mg_link.specs.Commands.{asked, told}
+use Rattle.mg_server.specs.Calls.{past_of}
+use Rattle.mg_server.specs.Commands.{asked, told}
 use Rattle.mg_link.specs.Exec.{Sending}
-use Rattle.mg_link.specs.Files.{AreChunks, Bucket, IsWhole, chunked, has_value, file_of}
-use Rattle.mg_link.specs.Filing.{HasDeleted, HasInserted, OthersLeave, part}
-use Rattle.mg_link.specs.Follow.{CameAs}
-use Rattle.mg_link.specs.Filter.{meets}
-use Rattle.mg_link.specs.History.{IsLegal, Step, state_of, step_after, told_at}
+use Rattle.mg_link.specs.Chunks.{chunked}
+use Rattle.mg_server.specs.Files.{AreChunks, Bucket, IsWhole, has_value, file_of}
+use Rattle.mg_server.specs.Filing.{HasDeleted, HasInserted, OthersLeave, part}
+use Rattle.mg_server.specs.Follow.{CameAs}
+use Rattle.mg_server.specs.Filter.{meets}
+use Rattle.mg_server.specs.History.{IsLegal, Step, state_of, step_after, told_at}
 use Rattle.mg_link.specs.Link.{Awaited}
 use Rattle.mg_link.specs.Log.{Call}
 use Rattle.mg_link.specs.Namespace.{Space}
-use Rattle.mg_link.specs.Owner.{IsOf, Onward, nobody}
-use Rattle.mg_link.specs.Standing.{Stands}
-use Rattle.mg_link.specs.State.{State, is_space}
-use Rattle.mg_link.specs.Step.{May, documents_of}
+use Rattle.mg_server.specs.Owner.{IsOf, Onward, nobody}
+use Rattle.mg_server.specs.Standing.{Stands}
+use Rattle.mg_server.specs.State.{State, is_space}
+use Rattle.mg_server.specs.Step.{May, documents_of}
 use Rattle.mg_options.specs.Fields.{fields_in}
 use Rattle.mg_ops.specs.Naming.{IsNamed}
 use Rattle.mg_records.specs.FileRecords.{chunk_count, chunk_length, file_record_of}

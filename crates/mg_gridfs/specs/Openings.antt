@@ -1,10 +1,10 @@
 -- What an opening goes on to know while others call, and whose cursors are its own.
 use Rattle.std.specs.Prelude.{◌≡◌, ℕ, List, Option, Some}
 use Rattle.mg_bson.specs.Tree.{Tree}
-use Rattle.mg_link.specs.Files.{Bucket}
+use Rattle.mg_server.specs.Files.{Bucket}
 use Rattle.mg_link.specs.Link.{Awaited}
 use Rattle.mg_link.specs.Log.{Call}
-use Rattle.mg_link.specs.Owner.{Holds, Onward}
+use Rattle.mg_server.specs.Owner.{Holds, Onward}
 use Rattle.mg_gridfs.specs.Downloaded.{KnowsDownload, KnowsOpening, doing_owner, looking_owner}
 use Rattle.mg_gridfs.specs.Downloads.{ClientDownload}
 use Rattle.mg_gridfs.specs.Findings.{ClientFinding, finding_ticket}

@@ -2,7 +2,7 @@
 use Rattle.std.specs.Prelude.{◌≡◌, ◌≢◌, ◌≤◌, ◌+◌, ℕ, ℤ, true, List, [], ◌∷◌, length, Option, Some, None, Ok, Err}
 use Rattle.mg_bson.specs.Raw.{IsDocument, fields, items}
 use Rattle.mg_bson.specs.Tree.{Items, Tree, no_items}
-use Rattle.mg_link.specs.Calls.{Flies, HeardBy, Keeps, Past, RequestFails, past_of}
+use Rattle.mg_server.specs.Calls.{Flies, HeardBy, Keeps, Past, RequestFails, past_of}
 use Rattle.mg_link.specs.Errors.{plain}
 use Rattle.mg_link.specs.Exec.{IsSuccess}
 use Rattle.mg_link.specs.Link.{Awaited, LogTold}

@@ -2,9 +2,10 @@
 use Rattle.std.specs.Prelude.{◌≡◌, ◌⊎◌, ◌<◌, ◌*◌, ◌++◌, ℕ, ℤ, List, [], codes, length, Some}
 use Rattle.mg_bson.specs.Raw.{fields}
 use Rattle.mg_bson.specs.Tree.{Fields}
-use Rattle.mg_link.specs.Calls.{Keeps, Past, past_of}
-use Rattle.mg_link.specs.Files.{AreChunks, Bucket, chunked, with_value}
-use Rattle.mg_link.specs.Filing.{Filing, KnowsFile, cleared, insert_at, part, removal_at, stays, unknown, whole_with}
+use Rattle.mg_server.specs.Calls.{Keeps, Past, past_of}
+use Rattle.mg_link.specs.Chunks.{chunked}
+use Rattle.mg_server.specs.Files.{AreChunks, Bucket, with_value}
+use Rattle.mg_server.specs.Filing.{Filing, KnowsFile, cleared, insert_at, part, removal_at, stays, unknown, whole_with}
 use Rattle.mg_link.specs.Link.{Awaited, LogTold}
 use Rattle.mg_link.specs.Log.{Call}
 use Rattle.mg_link.specs.declared.error.Error.{Error}

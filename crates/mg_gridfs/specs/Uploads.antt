@@ -2,7 +2,8 @@
 use Rattle.std.specs.Prelude.{◌≡◌, ◌<◌, ◌≤◌, ◌^◌, ◌*◌, ◌+◌, ℕ, ℤ, Bool, false, true, List, [], ◌∷◌, length, Option, Some, None}
 use Rattle.mg_bson.specs.Tree.{Fields, Tree}
 use Rattle.mg_link.specs.Exec.{Sending, ticket_of}
-use Rattle.mg_link.specs.Files.{AreChunks, chunked}
+use Rattle.mg_link.specs.Chunks.{chunked}
+use Rattle.mg_server.specs.Files.{AreChunks}
 use Rattle.mg_link.specs.declared.error.Error.{Error}
 use Rattle.mg_gridfs.specs.Buckets.{ClientBucket, ClientOpening, Destination, IsSize, size_in}
 use Rattle.mg_gridfs.specs.Checks.{ClientCheck, IsFreeCheck, IsSoundCheck, check_ticket}

@@ -22,7 +22,8 @@ use crate::commands::{create, create_index, find_any, list_indexes};
 use crate::indexes::Place;
 use mg_bson::{RawDocument, RawDocumentBuf};
 use mg_cursor::{AdvancePoll, Cursor, NewCursor, TryPoll};
-use mg_link::{Action, Error, ErrorKind, Exec, Link, Step, plain};
+use mg_exec::Exec;
+use mg_link::{Action, Error, ErrorKind, Link, Step, plain};
 use mg_ops::{
     CursorInformation, CursorSpecification, GetMoreResult, check_written, doc_slices, read_more,
 };

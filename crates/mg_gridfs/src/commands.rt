@@ -2,7 +2,7 @@
 ghost use Rattle.std.specs.Prelude.{◌≡◌, ◌⊎◌, IfOk, IfErr, [], ◌∷◌, None, false, true};
 ghost use Rattle.mg_bson.specs.View.{tree};
 ghost use Rattle.mg_link.specs.Errors.{plain};
-ghost use Rattle.mg_link.specs.ExecView.{reads};
+ghost use Rattle.mg_exec.specs.ExecView.{reads};
 ghost use Rattle.mg_link.specs.Namespace.{space};
 ghost use Rattle.mg_link.specs.declared.error.ErrorKind.TheVariants as kinds;
 ghost use Rattle.mg_ops.specs.Bodies.{find_body};
@@ -13,7 +13,8 @@ ghost use Rattle.mg_gridfs.specs.Commands.{CannotSend, CannotStore, IsEncoded, I
 use crate::bucket::GridFsBucket;
 use crate::indexes::Place;
 use mg_bson::{Bson, Document};
-use mg_link::{Error, Exec, Namespace, Retry};
+use mg_exec::{Exec, Retry};
+use mg_link::{Error, Namespace};
 use mg_ops::{Create, CreateIndexes, Delete, Find, Insert, ListIndexes, Operation, encode};
 use mg_options::{
     CreateIndexOptions, DeleteOptions, FindOptions, InsertManyOptions, ListIndexesOptions,

@@ -2,7 +2,7 @@
 ghost use Rattle.std.specs.Prelude.{◌≡◌, ◌↔◌, ◌<◌, ◌≤◌, ◌^◌, ◌++◌, [], IfErr, IfOk, IsTrue, OnErr, OnOk, Ok, ℕ, List, length, None, Some};
 ghost use Rattle.mg_link.specs.Acts.{IsOut};
 ghost use Rattle.mg_link.specs.Errors.{plain};
-ghost use Rattle.mg_link.specs.Files.{Bucket};
+ghost use Rattle.mg_server.specs.Files.{Bucket};
 ghost use Rattle.mg_link.specs.Moment.{LinkKeeps, moment, step_ending};
 ghost use Rattle.mg_link.specs.declared.error.ErrorKind.TheVariants as kinds;
 ghost use Rattle.mg_cursor.specs.Batches.{BreaksBatch, documents_of};

@@ -8,7 +8,8 @@ ghost use Rattle.mg_gridfs.specs.Uploads.{IsFreeFlight, by_check, by_command, fl
 ghost use Rattle.mg_gridfs.specs.UploadView.{check_of, flight_of};
 
 use crate::check::{Checking, still};
-use mg_link::{Action, Exec, Link};
+use mg_exec::Exec;
+use mg_link::{Action, Link};
 
 // A request of an upload that is given up.
 #[derive(Drop)]

@@ -1,6 +1,6 @@
 //! What holds of files, for the proofs of callers.
 ghost use Rattle.std.specs.Prelude.{◌<◌, ℕ, ℤ, List};
-ghost use Rattle.mg_link.specs.Files.{Bucket};
+ghost use Rattle.mg_server.specs.Files.{Bucket};
 ghost use Rattle.mg_link.specs.Link.{Awaited};
 ghost use Rattle.mg_link.specs.Log.{Call};
 ghost use Rattle.mg_gridfs.specs.Cursors.{CursorsBegin, CursorsGoOn};

@@ -6,7 +6,7 @@ ghost use Rattle.mg_bson.specs.Tree.{Items, item};
 ghost use Rattle.mg_bson.specs.View.{tree};
 ghost use Rattle.mg_link.specs.Acts.{EndsAtOnce, FailsByFault, IsOut, Pended, Tickets, ticket_after};
 ghost use Rattle.mg_link.specs.Exec.{ticket_of};
-ghost use Rattle.mg_link.specs.Files.{Bucket};
+ghost use Rattle.mg_server.specs.Files.{Bucket};
 ghost use Rattle.mg_link.specs.Link.{Later};
 ghost use Rattle.mg_link.specs.Moment.{LinkKeeps, moment, step_ending};
 ghost use Rattle.mg_ops.specs.Cursors.{BreaksIn, Cursor, Gave, cursor_of};
@@ -27,10 +27,8 @@ use crate::download::GridFsDownloadStream;
 use crate::judging::broken;
 use mg_bson::{Bson, RawArray, RawDocument, RawDocumentBuf, RawValue};
 use mg_cursor::{NewCursor, RawBatchCursor};
-use mg_link::{
-    Action, Error, ErrorKind, Exec, GridFsErrorKind, GridFsFileIdentifier, Link, Malformed, Step,
-    plain,
-};
+use mg_exec::Exec;
+use mg_link::{Action, Error, ErrorKind, GridFsErrorKind, GridFsFileIdentifier, Link, Malformed, Step, plain};
 use mg_ops::{GetMoreResult, doc_slices, read_more};
 use mg_records::{FilesCollectionDocument, ReadRaw};
 use std::alloc::Global;

@@ -7,7 +7,8 @@ ghost use Rattle.mg_gridfs.specs.UploadView.{back_phase, phase_of};
 use crate::check::Checking;
 use crate::flight::Flight;
 use mg_bson::DateTime;
-use mg_link::{Error, Exec, Step};
+use mg_exec::Exec;
+use mg_link::{Error, Step};
 
 // The length of a file whose bytes are all taken, and the moment of its record.
 #[derive(Clone, Copy)]

@@ -3,7 +3,7 @@ ghost use Rattle.std.specs.Prelude.{◌≡◌, ℕ, None, Some, OnErr, OnOk, IfE
 ghost use Rattle.mg_bson.specs.View.{tree};
 ghost use Rattle.mg_link.specs.Acts.{IsOut};
 ghost use Rattle.mg_link.specs.Errors.{plain};
-ghost use Rattle.mg_link.specs.Files.{Bucket};
+ghost use Rattle.mg_server.specs.Files.{Bucket};
 ghost use Rattle.mg_link.specs.Moment.{LinkKeeps, moment};
 ghost use Rattle.mg_link.specs.declared.error.ErrorKind.TheVariants as kinds;
 ghost use Rattle.mg_ops.specs.Drawn.{AreLater};

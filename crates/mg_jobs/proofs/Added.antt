@@ -6,17 +6,17 @@ use Rattle.std.proofs.lemmas.Bool.{cases_Bool, and_parts, leb-true}
 use Rattle.mg_bson.specs.Tree.{Tree, Fields}
 use Rattle.mg_bson.specs.Bytes.{levels}
 use Rattle.mg_bson.specs.Raw.{fields}
-use Rattle.mg_link.specs.Commands.{Told, deleted, done, garbled, gave, inserted, killed, opened, refuses, updated}
-use Rattle.mg_link.specs.History.{state_after}
-use Rattle.mg_link.specs.Kept.{AreByRulesFrom, IsByRules, Kept, given_after, made_by, made_of, rule_entries, state_behind, state_of_kept, step_of, steps_from, told_kept}
+use Rattle.mg_server.specs.Commands.{Told, deleted, done, garbled, gave, inserted, killed, opened, refuses, updated}
+use Rattle.mg_server.specs.History.{state_after}
+use Rattle.mg_server.specs.Kept.{AreByRulesFrom, IsByRules, Kept, given_after, made_by, made_of, rule_entries, state_behind, state_of_kept, step_of, steps_from, told_kept}
 use Rattle.mg_link.specs.Namespace.{Space}
-use Rattle.mg_link.specs.Rules.{Answer, Inserted, Request, accept, answer, answer_insert, answer_more, answer_of, answer_with, bad_request, choose, create_collection, create_indexes, delete, deleted_entries, deleted_event, deleted_reply, done_reply, drop_collection, events_may_be_given, find, insert, insert_entry, inserting, is_watch_of, kill, killed_reply, max_given_levels, max_name, may_be_given, may_stay, more, more_reply, no_more, place_at, query_more_reply, query_reply, size_of, update, watch, watch_reply, with_document, with_error}
-use Rattle.mg_link.specs.State.{Cursor, Entry, Index, State, Watch, between, collection_in, events_between, indexes_of, is_invalidate, is_space, nothing, query, sees, watching}
-use Rattle.mg_link.specs.Query.{index_listed}
-use Rattle.mg_link.specs.Write.{chosen, with_indexes}
-use Rattle.mg_link.specs.Step.{documents_of}
-use Rattle.mg_link.proofs.Allowed.{Rule, answered_if, answers_by, create_ok, found_by, map_some, refuses_by, rule_is}
-use Rattle.mg_link.proofs.Histories.{step_after-changes}
+use Rattle.mg_server.specs.Rules.{Answer, Inserted, Request, accept, answer, answer_insert, answer_more, answer_of, answer_with, bad_request, choose, create_collection, create_indexes, delete, deleted_entries, deleted_event, deleted_reply, done_reply, drop_collection, events_may_be_given, find, insert, insert_entry, inserting, is_watch_of, kill, killed_reply, max_given_levels, max_name, may_be_given, may_stay, more, more_reply, no_more, place_at, query_more_reply, query_reply, size_of, update, watch, watch_reply, with_document, with_error}
+use Rattle.mg_server.specs.State.{Cursor, Entry, Index, State, Watch, between, collection_in, events_between, indexes_of, is_invalidate, is_space, nothing, query, sees, watching}
+use Rattle.mg_server.specs.Query.{index_listed}
+use Rattle.mg_server.specs.Write.{chosen, with_indexes}
+use Rattle.mg_server.specs.Step.{documents_of}
+use Rattle.mg_server.proofs.Allowed.{Rule, answered_if, answers_by, create_ok, found_by, map_some, refuses_by, rule_is}
+use Rattle.mg_server.proofs.Histories.{step_after-changes}
 use Rattle.mg_jobs.proofs.Mild.{IsMild, IsMildCommand}
 use Rattle.mg_jobs.proofs.Sizes.{AreModest, IsModest, deleted_modest, event_modest, part_of}
 use Rattle.mg_jobs.proofs.Stored.{AreShort, HaveShort, accepted, chosen_short, documents_short, stays_short}

@@ -1,16 +1,16 @@
 -- What an insert that took effect did to the server.
 use Rattle.std.proofs.Common.{◌≡◌, ℕ, ℤ, pos, suc, true, List, [], ◌∷◌, ◌++◌, length, Some, refl, sym, ap, ◌∙◌, subst, take}
 use Rattle.mg_bson.specs.Tree.{Fields}
-use Rattle.mg_link.specs.Commands.{Asked, asked, asks_insert, inserted, told, Told}
-use Rattle.mg_link.specs.History.{Step, IsLegal, state_of, told_at}
+use Rattle.mg_server.specs.Commands.{Asked, asked, asks_insert, inserted, told, Told}
+use Rattle.mg_server.specs.History.{Step, IsLegal, state_of, told_at}
 use Rattle.mg_link.specs.Log.{Sight, reply, Call}
 use Rattle.mg_link.specs.Namespace.{Space}
-use Rattle.mg_link.specs.Standing.{SeenFits, Stands}
-use Rattle.mg_link.specs.State.{State, nothing, documents_at}
-use Rattle.mg_link.specs.Step.{Made, May, documents_of, effect, grown, next, written}
-use Rattle.mg_link.proofs.Collections.{documents_here}
-use Rattle.mg_link.proofs.Fronts.{legal_take}
-use Rattle.mg_link.proofs.Owners.{legal_back, legal_parts, state_one}
+use Rattle.mg_server.specs.Standing.{SeenFits, Stands}
+use Rattle.mg_server.specs.State.{State, nothing, documents_at}
+use Rattle.mg_server.specs.Step.{Made, May, documents_of, effect, grown, next, written}
+use Rattle.mg_server.proofs.Collections.{documents_here}
+use Rattle.mg_server.proofs.Fronts.{legal_take}
+use Rattle.mg_server.proofs.Owners.{legal_back, legal_parts, state_one}
 use Rattle.mg_ops.specs.Appended.{InsertsAt}
 use Rattle.mg_link.proofs.Places.{take_more}
 

@@ -6,19 +6,20 @@ use Rattle.std.proofs.lemmas.List.{take_all}
 use Rattle.std.proofs.lemmas.Slice.Eq.{bytes_eq-Decides}
 use Rattle.mg_bson.specs.Raw.{fields}
 use Rattle.mg_bson.specs.Tree.{Fields, Tree}
-use Rattle.mg_link.specs.Commands.{asked, asks_delete, asks_insert, asks_query}
-use Rattle.mg_link.specs.Files.{AreChunks, Bucket, File, IsWhole, LeavesFile, chunked, chunks_space, file_of, files_space, has_value}
-use Rattle.mg_link.specs.Filing.{part, whole_with}
-use Rattle.mg_link.specs.Filter.{key, meets}
-use Rattle.mg_link.specs.History.{IsLegal, Step, state_of}
+use Rattle.mg_server.specs.Commands.{asked, asks_delete, asks_insert, asks_query}
+use Rattle.mg_link.specs.Chunks.{chunked}
+use Rattle.mg_server.specs.Files.{AreChunks, Bucket, File, IsWhole, LeavesFile, chunks_space, file_of, files_space, has_value}
+use Rattle.mg_server.specs.Filing.{part, whole_with}
+use Rattle.mg_server.specs.Filter.{key, meets}
+use Rattle.mg_server.specs.History.{IsLegal, Step, state_of}
 use Rattle.mg_link.specs.Log.{Call}
-use Rattle.mg_link.specs.Standing.{Stands}
-use Rattle.mg_link.specs.State.{State, nothing}
-use Rattle.mg_link.proofs.Files.{quiet_stays}
-use Rattle.mg_link.proofs.Owners.{same_some}
+use Rattle.mg_server.specs.Standing.{Stands}
+use Rattle.mg_server.specs.State.{State, nothing}
+use Rattle.mg_server.proofs.Files.{quiet_stays}
+use Rattle.mg_server.proofs.Owners.{same_some}
 use Rattle.mg_link.proofs.Places.{get_within}
 use Rattle.mg_link.specs.declared.error.Error.{Error}
-use Rattle.mg_link.specs.Query.{Query}
+use Rattle.mg_server.specs.Query.{Query}
 use Rattle.mg_ops.specs.Naming.{IsNamed}
 use Rattle.mg_ops.proofs.Asking.{asks_to_insert}
 use Rattle.mg_ops.proofs.AskingMore.{asks_to_delete}

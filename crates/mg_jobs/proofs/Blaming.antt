@@ -3,13 +3,13 @@ use Rattle.std.proofs.Common.{◌≡◌, ◌∷◌, ◌++◌, [], ℕ, suc, ℤ,
 use Rattle.std.specs.List.{concat}
 use Rattle.std.specs.Prelude.{IfOk, slice_get}
 use Rattle.mg_bson.specs.Tree.{Fields, Tree}
-use Rattle.mg_link.specs.Calls.{Past}
-use Rattle.mg_link.specs.Files.{chunks_space, file_of}
-use Rattle.mg_link.specs.History.{state_of}
+use Rattle.mg_server.specs.Calls.{Past}
+use Rattle.mg_server.specs.Files.{chunks_space, file_of}
+use Rattle.mg_server.specs.History.{state_of}
 use Rattle.mg_link.specs.Link.{Awaited, LogTold}
 use Rattle.mg_link.specs.Log.{Call}
 use Rattle.mg_link.specs.declared.error.Error.{Error}
-use Rattle.mg_link.proofs.Owners.{same_some}
+use Rattle.mg_server.proofs.Owners.{same_some}
 use Rattle.mg_ops.specs.Naming.{IsNamed}
 use Rattle.mg_players.specs.Behind.{BlamesBehind, RemovesOnce, WholeBehind}
 use Rattle.mg_players.specs.Blaming.{AllBehind, GetBehind}

@@ -5,10 +5,10 @@ use Rattle.mg_bson.specs.Raw.{fields}
 use Rattle.mg_bson.specs.Reading.{doc}
 use Rattle.mg_bson.specs.Tree.{Fields, Tree, field, no_fields}
 use Rattle.mg_bson.specs.declared.tree.Timestamp.{Timestamp}
-use Rattle.mg_link.specs.Calls.{Past}
+use Rattle.mg_server.specs.Calls.{Past}
 use Rattle.mg_link.specs.Exec.{FailsAs, FailsByReply, IsSuccess}
 use Rattle.mg_link.specs.Log.{Call}
-use Rattle.mg_link.specs.Owner.{IsOf}
+use Rattle.mg_server.specs.Owner.{IsOf}
 use Rattle.mg_link.specs.Reply.{verdict_of}
 use Rattle.mg_link.specs.Session.{Session}
 use Rattle.mg_link.specs.declared.error.Error.{Error}

@@ -9,9 +9,9 @@ use Rattle.mg_bson.specs.Tree.{Tree, Fields, no_fields}
 use Rattle.mg_bson.specs.Raw.{fields}
 use Rattle.mg_bson.specs.Reading.{doc}
 use Rattle.mg_bson.specs.Writable.{max_len}
-use Rattle.mg_link.specs.Calls.{HeardAt, HeardBy, NoneBroken, Past, RequestFails, out_of_memory, was_broken, was_lost, was_refused}
+use Rattle.mg_server.specs.Calls.{HeardAt, HeardBy, NoneBroken, Past, RequestFails, out_of_memory, was_broken, was_lost, was_refused}
 use Rattle.mg_link.specs.Exec.{FailsAs, FailsByReply, IsSuccess}
-use Rattle.mg_link.specs.History.{Step, state_of}
+use Rattle.mg_server.specs.History.{Step, state_of}
 use Rattle.mg_link.specs.Link.{Awaited, LogTold}
 use Rattle.mg_link.specs.Log.{Sight, fault, reply, Call}
 use Rattle.mg_link.specs.Namespace.{Space, Target, target}
@@ -19,17 +19,17 @@ use Rattle.mg_link.specs.Reply.{verdict_of}
 use Rattle.mg_link.specs.Resumable.{is_resumable}
 use Rattle.mg_link.specs.Session.{Session}
 use Rattle.mg_link.specs.Errors.{plain}
-use Rattle.mg_link.specs.Standing.{SeenFits}
-use Rattle.mg_link.specs.Commands.{Batch, batch_of}
-use Rattle.mg_link.specs.State.{State, events_between, watching}
-use Rattle.mg_link.specs.Step.{documents_of}
+use Rattle.mg_server.specs.Standing.{SeenFits}
+use Rattle.mg_server.specs.Commands.{Batch, batch_of}
+use Rattle.mg_server.specs.State.{State, events_between, watching}
+use Rattle.mg_server.specs.Step.{documents_of}
 use Rattle.mg_link.specs.declared.error.Error.{Error}
 use Rattle.mg_link.specs.declared.error.ErrorKind.{ErrorKind}
 use Rattle.mg_link.specs.declared.error.ErrorKind.TheVariants as kind
 use Rattle.mg_link.specs.declared.reply.Verdict.{Verdict}
 use Rattle.mg_link.specs.declared.reply.Verdict.TheVariants as verdict
-use Rattle.mg_link.proofs.Owners.{same_some}
-use Rattle.mg_link.proofs.Pasts.{heard_by}
+use Rattle.mg_server.proofs.Owners.{same_some}
+use Rattle.mg_server.proofs.Pasts.{heard_by}
 use Rattle.mg_link.proofs.Places.{get_within}
 use Rattle.mg_options.specs.declared.change_stream.ChangeStreamOptions.{ChangeStreamOptions}
 use Rattle.mg_ops.specs.Bodies.{insert_command}
@@ -87,7 +87,7 @@ use Rattle.mg_jobs.proofs.SaidTwice.{follow_both, get_both, insert_both, put_bot
 use Rattle.mg_players.proofs.Creating.{CreatesNone, asked_creates, asking_none, inserting_none, killing_none, resuming_none}
 use Rattle.mg_players.proofs.Prompting.{Brings, IsPrompted, IsWatchOnly, more_gives, prompt_success, prompted}
 use Rattle.mg_jobs.proofs.Identified.{IsHonest, StandsWell, empty_well, failed_so, failed_well, gave_well, heard_more, honest_over, next_well, opened_well, replied_well, resumed_brings, settled_first, watch_at}
-use Rattle.mg_link.proofs.Watched.{IsWatched}
+use Rattle.mg_server.proofs.Watched.{IsWatched}
 
 -- ---- what a call heard
 

@@ -5,16 +5,16 @@ use Rattle.std.proofs.lemmas.List.Elements.{Contains-push_cases}
 use Rattle.mg_bson.specs.Find.{get}
 use Rattle.mg_bson.specs.Raw.{fields}
 use Rattle.mg_bson.specs.Tree.{Fields}
-use Rattle.mg_link.specs.Commands.{Asked, Told, asked, asks_create, asks_delete, asks_drop, asks_indexes, asks_insert, asks_kill, asks_more, asks_other, asks_query, asks_update, asks_watch, deleted, done, failures_at, garbled, gave, inserted, killed, opened, refuses, updated}
-use Rattle.mg_link.specs.History.{Step, state_of, step_after, told_at}
-use Rattle.mg_link.specs.Kept.{AreByRulesFrom, Follows, IsByRules, Kept, by_choice, by_rules, given_after, state_behind, step_of, steps_from, steps_of}
+use Rattle.mg_server.specs.Commands.{Asked, Told, asked, asks_create, asks_delete, asks_drop, asks_indexes, asks_insert, asks_kill, asks_more, asks_other, asks_query, asks_update, asks_watch, deleted, done, failures_at, garbled, gave, inserted, killed, opened, refuses, updated}
+use Rattle.mg_server.specs.History.{Step, state_of, step_after, told_at}
+use Rattle.mg_server.specs.Kept.{AreByRulesFrom, Follows, IsByRules, Kept, by_choice, by_rules, given_after, state_behind, step_of, steps_from, steps_of}
 use Rattle.mg_link.specs.Namespace.{Space}
-use Rattle.mg_link.specs.Prompt.{AnswersAtOnce, HoldsBackNone, IsPrompt, IsRefused, MeetsConcern}
-use Rattle.mg_link.specs.Rules.{Answer, Request, answer, answer_of, create_collection, create_indexes, delete, done_reply, drop_collection, find, insert, kill, more, refusal, update, watch}
-use Rattle.mg_link.specs.State.{State, collection_in, nothing}
-use Rattle.mg_link.proofs.Allowed.{Rule, answers_by, create_ok, refuses_by, rule_is}
-use Rattle.mg_link.proofs.Owners.{same_some}
-use Rattle.mg_link.proofs.Requests.{asked_is, asks_of}
+use Rattle.mg_server.specs.Prompt.{AnswersAtOnce, HoldsBackNone, IsPrompt, IsRefused, MeetsConcern}
+use Rattle.mg_server.specs.Rules.{Answer, Request, answer, answer_of, create_collection, create_indexes, delete, done_reply, drop_collection, find, insert, kill, more, refusal, update, watch}
+use Rattle.mg_server.specs.State.{State, collection_in, nothing}
+use Rattle.mg_server.proofs.Allowed.{Rule, answers_by, create_ok, refuses_by, rule_is}
+use Rattle.mg_server.proofs.Owners.{same_some}
+use Rattle.mg_server.proofs.Requests.{asked_is, asks_of}
 use Rattle.mg_jobs.specs.Completing.{IsTaken}
 
 -- ---- the reply

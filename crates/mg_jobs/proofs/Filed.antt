@@ -6,22 +6,24 @@ use Rattle.std.proofs.lemmas.List.{take_all}
 use Rattle.mg_bson.specs.Find.{get}
 use Rattle.mg_bson.specs.Raw.{fields}
 use Rattle.mg_bson.specs.Tree.{Fields, Tree}
-use Rattle.mg_link.specs.Commands.{Asked, as_integer, asked, asked_by, asks_more, asks_other, asks_query, more_of, space_at}
-use Rattle.mg_link.specs.Files.{AreChunks, Bucket, File, IsWhole, LeavesFile, chunked, chunks_space, file_of}
-use Rattle.mg_link.specs.Calls.{Past}
-use Rattle.mg_link.specs.Filing as filing
-use Rattle.mg_link.specs.Filing.{IsOwnStep, KnowsFile, Leaves, cleared}
-use Rattle.mg_link.specs.History.{IsLegal, IsLegalFrom, Step, state_after, state_of, step_after, told_at}
+use Rattle.mg_link.specs.Numbers.{as_integer}
+use Rattle.mg_server.specs.Commands.{Asked, asked, asked_by, asks_more, asks_other, asks_query, more_of, space_at}
+use Rattle.mg_link.specs.Chunks.{chunked}
+use Rattle.mg_server.specs.Files.{AreChunks, Bucket, File, IsWhole, LeavesFile, chunks_space, file_of}
+use Rattle.mg_server.specs.Calls.{Past}
+use Rattle.mg_server.specs.Filing as filing
+use Rattle.mg_server.specs.Filing.{IsOwnStep, KnowsFile, Leaves, cleared}
+use Rattle.mg_server.specs.History.{IsLegal, IsLegalFrom, Step, state_after, state_of, step_after, told_at}
 use Rattle.mg_link.specs.Link.{Awaited}
 use Rattle.mg_link.specs.Log.{Call}
-use Rattle.mg_link.specs.Owner.{IsOf, Owner}
+use Rattle.mg_server.specs.Owner.{IsOf, Owner}
 use Rattle.mg_link.specs.Namespace.{Space}
-use Rattle.mg_link.specs.Standing.{Stands}
-use Rattle.mg_link.specs.State.{State, nothing}
-use Rattle.mg_link.specs.Step.{May}
+use Rattle.mg_server.specs.Standing.{Stands}
+use Rattle.mg_server.specs.State.{State, nothing}
+use Rattle.mg_server.specs.Step.{May}
 use Rattle.mg_link.specs.declared.error.Error.{Error}
-use Rattle.mg_link.proofs.Files.{quiet_stays}
-use Rattle.mg_link.proofs.Owners.{same_some}
+use Rattle.mg_server.proofs.Files.{quiet_stays}
+use Rattle.mg_server.proofs.Owners.{same_some}
 use Rattle.mg_link.proofs.Places.{get_within}
 use Rattle.mg_gridfs.specs.Storing.{HasStored}
 use Rattle.mg_gridfs.specs.Uploads.{fresh_upload}

@@ -3,12 +3,12 @@ use Rattle.std.proofs.Common.{◌≡◌, ◌<◌, ◌≤◌, ◌++◌, ◌∷◌
 use Rattle.std.specs.Prelude.{slice_get}
 use Rattle.mg_bson.specs.Raw.{fields}
 use Rattle.mg_bson.specs.Tree.{Fields}
-use Rattle.mg_link.specs.Commands.{asked, asks_query}
-use Rattle.mg_link.specs.Files.{chunks_space, files_space}
+use Rattle.mg_server.specs.Commands.{asked, asks_query}
+use Rattle.mg_server.specs.Files.{chunks_space, files_space}
 use Rattle.mg_link.specs.Log.{Call}
-use Rattle.mg_link.specs.Owner.{IsOf}
-use Rattle.mg_link.specs.Query.{Query}
-use Rattle.mg_link.proofs.Owners.{same_some}
+use Rattle.mg_server.specs.Owner.{IsOf}
+use Rattle.mg_server.specs.Query.{Query}
+use Rattle.mg_server.proofs.Owners.{same_some}
 use Rattle.mg_ops.specs.Naming.{IsNamed}
 use Rattle.mg_change.specs.Sent.{Falling}
 use Rattle.mg_records.specs.FileRecords.{FileRecord}

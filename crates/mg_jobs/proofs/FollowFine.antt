@@ -5,22 +5,22 @@ use Rattle.std.proofs.lemmas.Bool.{cases_Bool, cases_lt}
 use Rattle.mg_bson.specs.Find.{get}
 use Rattle.mg_bson.specs.Raw.{fields}
 use Rattle.mg_bson.specs.Tree.{Fields, Tree}
-use Rattle.mg_link.specs.Filter.{is_same}
-use Rattle.mg_link.specs.History.{IsLegal, Step, state_of, told_at}
-use Rattle.mg_link.specs.Kept.{IsByRules as AreByRules, Kept, steps_of}
+use Rattle.mg_server.specs.Filter.{is_same}
+use Rattle.mg_server.specs.History.{IsLegal, Step, state_of, told_at}
+use Rattle.mg_server.specs.Kept.{IsByRules as AreByRules, Kept, steps_of}
 use Rattle.mg_link.specs.Log.{Call}
 use Rattle.mg_link.specs.Namespace.{Target}
-use Rattle.mg_link.specs.Owner.{IsOf}
-use Rattle.mg_link.specs.Prompt.{HoldsBackNone, IsRefused}
-use Rattle.mg_link.specs.Rules.{Answer, batch_events, batch_place, ends_watch, more, request_of, size_of, some_size, token_of, token_place, watch, watch_reply, watch_space}
-use Rattle.mg_link.specs.Standing.{Stands}
-use Rattle.mg_link.specs.State.{Entry, State, Watch, after}
-use Rattle.mg_link.proofs.Allowed.{place_fits}
-use Rattle.mg_link.proofs.Batching.{batch_within}
+use Rattle.mg_server.specs.Owner.{IsOf}
+use Rattle.mg_server.specs.Prompt.{HoldsBackNone, IsRefused}
+use Rattle.mg_server.specs.Rules.{Answer, batch_events, batch_place, ends_watch, more, request_of, size_of, some_size, token_of, token_place, watch, watch_reply, watch_space}
+use Rattle.mg_server.specs.Standing.{Stands}
+use Rattle.mg_server.specs.State.{Entry, State, Watch, after}
+use Rattle.mg_server.proofs.Allowed.{place_fits}
+use Rattle.mg_server.proofs.Batching.{batch_within}
 use Rattle.mg_link.proofs.Places.{get_within}
-use Rattle.mg_link.proofs.Requests.{request_reads}
-use Rattle.mg_link.proofs.Telling.{gave_reply, opened_reply}
-use Rattle.mg_link.proofs.Tokens.{is_same_self}
+use Rattle.mg_server.proofs.Requests.{request_reads}
+use Rattle.mg_server.proofs.Telling.{gave_reply, opened_reply}
+use Rattle.mg_server.proofs.Tokens.{is_same_self}
 use Rattle.mg_options.specs.declared.change_stream.ChangeStreamOptions.{ChangeStreamOptions}
 use Rattle.mg_ops.specs.Bodies.{watch_command}
 use Rattle.mg_ops.specs.Commands.{kill_command}

@@ -4,30 +4,30 @@ use Rattle.std.specs.Prelude.{if◌then◌else◌, slice_get, is_some}
 use Rattle.std.specs.List.{concat}
 use Rattle.mg_bson.specs.Raw.{fields}
 use Rattle.mg_bson.specs.Tree.{Fields, Tree}
-use Rattle.mg_link.specs.Calls.{HeardBy, Past, RequestFails, out_of_memory, was_broken, was_lost, was_refused}
-use Rattle.mg_link.specs.Commands.{Asked, asked, asks_more}
+use Rattle.mg_server.specs.Calls.{HeardBy, Past, RequestFails, out_of_memory, was_broken, was_lost, was_refused}
+use Rattle.mg_server.specs.Commands.{Asked, asked, asks_more}
 use Rattle.mg_link.specs.Errors.{plain}
 use Rattle.mg_link.specs.Exec.{IsSuccess}
-use Rattle.mg_link.specs.History.{IsLegal, Step, state_of, told_at}
-use Rattle.mg_link.specs.Kept.{IsByRules as AreByRules, Kept, steps_of}
+use Rattle.mg_server.specs.History.{IsLegal, Step, state_of, told_at}
+use Rattle.mg_server.specs.Kept.{IsByRules as AreByRules, Kept, steps_of}
 use Rattle.mg_link.specs.Link.{Awaited}
 use Rattle.mg_link.specs.Log.{Call, fault, reply}
 use Rattle.mg_link.specs.Namespace.{Space, Target, target}
-use Rattle.mg_link.specs.Owner.{IsOf, NamesItsOwn}
-use Rattle.mg_link.specs.Prompt.{HoldsBackNone}
+use Rattle.mg_server.specs.Owner.{IsOf, NamesItsOwn}
+use Rattle.mg_server.specs.Prompt.{HoldsBackNone}
 use Rattle.mg_link.specs.Resumable.{is_resumable}
-use Rattle.mg_link.specs.Rules.{watch_space}
+use Rattle.mg_server.specs.Rules.{watch_space}
 use Rattle.mg_link.specs.Session.{Session}
-use Rattle.mg_link.specs.Standing.{Names, Stands}
-use Rattle.mg_link.specs.State.{State}
+use Rattle.mg_server.specs.Standing.{Names, Stands}
+use Rattle.mg_server.specs.State.{State}
 use Rattle.mg_link.specs.declared.error.Error.{Error}
 use Rattle.mg_link.specs.declared.error.ErrorKind.{ErrorKind}
 use Rattle.mg_link.specs.declared.error.ErrorKind.TheVariants as kind
-use Rattle.mg_link.proofs.Pasts.{heard_by}
+use Rattle.mg_server.proofs.Pasts.{heard_by}
 use Rattle.mg_link.proofs.Places.{get_within}
-use Rattle.mg_link.proofs.SelfMade.{names_whole}
-use Rattle.mg_link.proofs.Watched.{IsWatched}
-use Rattle.mg_link.proofs.Cursoring.{not_zero}
+use Rattle.mg_server.proofs.SelfMade.{names_whole}
+use Rattle.mg_server.proofs.Watched.{IsWatched}
+use Rattle.mg_server.proofs.Cursoring.{not_zero}
 use Rattle.mg_options.specs.declared.change_stream.ChangeStreamOptions.{ChangeStreamOptions}
 use Rattle.mg_ops.specs.Bodies.{watch_command}
 use Rattle.mg_ops.specs.Commands.{kill_command}

@@ -2,17 +2,17 @@
 use Rattle.std.proofs.Common.{◌≡◌, ◌⊎◌, ℕ, zero, suc, ℤ, Bool, true, false, List, [], ◌∷◌, length, Option, Some, None, Result, Ok, Err, ◌∙◌, subst, inl, inr, arith}
 use Rattle.std.specs.Prelude.{IfOk, slice_get}
 use Rattle.mg_bson.specs.Tree.{Fields, Tree}
-use Rattle.mg_link.specs.Calls.{NoneBroken, Past, RequestFails}
+use Rattle.mg_server.specs.Calls.{NoneBroken, Past, RequestFails}
 use Rattle.mg_link.specs.Exec.{IsSuccess}
-use Rattle.mg_link.specs.History.{IsLegal, Step}
+use Rattle.mg_server.specs.History.{IsLegal, Step}
 use Rattle.mg_link.specs.Link.{Awaited, LogTold}
 use Rattle.mg_link.specs.Log.{Call}
 use Rattle.mg_link.specs.Namespace.{Space, Target, target}
-use Rattle.mg_link.specs.Standing.{Stands}
+use Rattle.mg_server.specs.Standing.{Stands}
 use Rattle.mg_link.specs.declared.error.Error.{Error}
 use Rattle.mg_link.specs.declared.error.ErrorKind.TheVariants as kind
-use Rattle.mg_link.proofs.Owners.{same_some}
-use Rattle.mg_link.proofs.Watched.{IsWatched}
+use Rattle.mg_server.proofs.Owners.{same_some}
+use Rattle.mg_server.proofs.Watched.{IsWatched}
 use Rattle.mg_ops.specs.Bodies.{insert_command}
 use Rattle.mg_ops.specs.Failing.{CannotBeSent}
 use Rattle.mg_ops.specs.InsertCauses.{InsertFails, ListsFor, cannot_encode, cannot_insert, command_fails, no_memory}

@@ -6,28 +6,29 @@ use Rattle.std.proofs.lemmas.Bool.{cases_lt}
 use Rattle.mg_bson.specs.Find.{as_document}
 use Rattle.mg_bson.specs.Raw.{fields}
 use Rattle.mg_bson.specs.Tree.{Fields, Items, Tree, item}
-use Rattle.mg_link.specs.Calls.{Past}
-use Rattle.mg_link.specs.Commands.{Told, asked, asks_more, asks_query, batch_of, documents_in, gave, gave_by, opened, opened_by, time_in}
+use Rattle.mg_server.specs.Calls.{Past}
+use Rattle.mg_server.specs.Commands.{Told, asked, asks_more, asks_query, batch_of, documents_in, gave, gave_by, opened, opened_by, time_in}
 use Rattle.mg_link.specs.Exec.{IsSuccess}
-use Rattle.mg_link.specs.Files.{AreChunks, Bucket, File, by_number, chunked, chunks_space, file_of, files_space, has_value}
-use Rattle.mg_link.specs.Filter.{key, matches, meets}
-use Rattle.mg_link.specs.History.{IsLegal, Step, state_after, state_of, told_at}
-use Rattle.mg_link.specs.Kept.{AreByRulesFrom, IsByRules as AreByRules, Kept, given_after, made_of, state_behind, state_of_kept, steps_from, steps_of}
+use Rattle.mg_link.specs.Chunks.{chunked}
+use Rattle.mg_server.specs.Files.{AreChunks, Bucket, File, by_number, chunks_space, file_of, files_space, has_value}
+use Rattle.mg_server.specs.Filter.{key, matches, meets}
+use Rattle.mg_server.specs.History.{IsLegal, Step, state_after, state_of, told_at}
+use Rattle.mg_server.specs.Kept.{AreByRulesFrom, IsByRules as AreByRules, Kept, given_after, made_of, state_behind, state_of_kept, steps_from, steps_of}
 use Rattle.mg_link.specs.Log.{Call, Sight, reply}
 use Rattle.mg_link.specs.Namespace.{Space}
-use Rattle.mg_link.specs.Owner.{IsOf}
-use Rattle.mg_link.specs.Prompt.{HoldsBackNone, IsRefused}
-use Rattle.mg_link.specs.Query.{Query, result, sorted}
-use Rattle.mg_link.specs.Rules.{batch_of_query, find, more, query_space, request_of}
-use Rattle.mg_link.specs.Standing.{Names, OpensId, SeenFits, Stands, TookEffect}
-use Rattle.mg_link.specs.State.{State, nothing, query}
-use Rattle.mg_link.specs.Step.{documents_of}
+use Rattle.mg_server.specs.Owner.{IsOf}
+use Rattle.mg_server.specs.Prompt.{HoldsBackNone, IsRefused}
+use Rattle.mg_server.specs.Query.{Query, result, sorted}
+use Rattle.mg_server.specs.Rules.{batch_of_query, find, more, query_space, request_of}
+use Rattle.mg_server.specs.Standing.{Names, OpensId, SeenFits, Stands, TookEffect}
+use Rattle.mg_server.specs.State.{State, nothing, query}
+use Rattle.mg_server.specs.Step.{documents_of}
 use Rattle.mg_link.specs.declared.error.Malformed.{Malformed}
-use Rattle.mg_link.proofs.Allowed.{query_id-is}
-use Rattle.mg_link.proofs.Files.{quiet_stays}
-use Rattle.mg_link.proofs.Later.{leaves_step, opens_given}
+use Rattle.mg_server.proofs.Allowed.{query_id-is}
+use Rattle.mg_server.proofs.Files.{quiet_stays}
+use Rattle.mg_server.proofs.Later.{leaves_step, opens_given}
 use Rattle.mg_link.proofs.Places.{get_some, get_within}
-use Rattle.mg_link.proofs.Requests.{asked_is}
+use Rattle.mg_server.proofs.Requests.{asked_is}
 use Rattle.mg_ops.specs.Cursors.{Cursor as Cursor_told, cursor_of}
 use Rattle.mg_store.specs.InMemory.{AreAsFates, AreKept}
 use Rattle.mg_store.specs.declared.fate.Fate.{Fate}

@@ -6,28 +6,30 @@ use Rattle.mg_bson.specs.Find.{as_document}
 use Rattle.mg_bson.specs.Raw.{fields}
 use Rattle.mg_bson.specs.Reading.{doc}
 use Rattle.mg_bson.specs.Tree.{Fields, Items, Tree, item, no_fields, no_items}
-use Rattle.mg_link.specs.Calls.{HeardAt, HeardBy, Past, RequestFails, out_of_memory, was_broken, was_lost, was_refused}
-use Rattle.mg_link.specs.Commands.{Batch, as_database, asked, asks_more, asks_query, batch_of, documents_in}
+use Rattle.mg_server.specs.Calls.{HeardAt, HeardBy, Past, RequestFails, out_of_memory, was_broken, was_lost, was_refused}
+use Rattle.mg_link.specs.Namespace.{as_database}
+use Rattle.mg_server.specs.Commands.{Batch, asked, asks_more, asks_query, batch_of, documents_in}
 use Rattle.mg_link.specs.Exec.{FailsAs, FailsByReply, IsSuccess}
-use Rattle.mg_link.specs.Files.{File, LeavesFile, chunked, chunks_space, file_of, files_space}
-use Rattle.mg_link.specs.History.{Step, state_of}
+use Rattle.mg_link.specs.Chunks.{chunked}
+use Rattle.mg_server.specs.Files.{File, LeavesFile, chunks_space, file_of, files_space}
+use Rattle.mg_server.specs.History.{Step, state_of}
 use Rattle.mg_link.specs.Link.{Awaited}
 use Rattle.mg_link.specs.Log.{Call, Sight, fault, reply}
-use Rattle.mg_link.specs.Query.{Query, result}
+use Rattle.mg_server.specs.Query.{Query, result}
 use Rattle.mg_link.specs.Reply.{verdict_of}
-use Rattle.mg_link.specs.State.{State}
+use Rattle.mg_server.specs.State.{State}
 use Rattle.mg_link.specs.Session.{Session}
-use Rattle.mg_link.specs.Step.{Made, grown}
+use Rattle.mg_server.specs.Step.{Made, grown}
 use Rattle.mg_link.specs.declared.error.Error.{Error}
 use Rattle.mg_link.specs.declared.error.ErrorKind.TheVariants as kind
 use Rattle.mg_link.specs.declared.error.Malformed.{Malformed}
 use Rattle.mg_link.specs.declared.error.Malformed.TheVariants as malformed
 use Rattle.mg_link.specs.declared.reply.Verdict.{Verdict}
 use Rattle.mg_link.specs.declared.reply.Verdict.TheVariants as verdict
-use Rattle.mg_link.proofs.Owners.{same_some}
-use Rattle.mg_link.proofs.Pasts.{heard_by}
+use Rattle.mg_server.proofs.Owners.{same_some}
+use Rattle.mg_server.proofs.Pasts.{heard_by}
 use Rattle.mg_link.proofs.Places.{get_within}
-use Rattle.mg_link.proofs.Files.{quiet_stays}
+use Rattle.mg_server.proofs.Files.{quiet_stays}
 use Rattle.mg_options.specs.Fields.{Refuses, first_unfit}
 use Rattle.mg_ops.specs.Cursors.{Cursor, Manner, cursor_of, next_command}
 use Rattle.mg_ops.specs.Failing.{HasBadSize}

@@ -3,13 +3,13 @@ use Rattle.std.proofs.Common.{◌≡◌, ℕ, ℤ, Bool, true, false, List, Opti
 use Rattle.std.specs.Ordering.{int_eq}
 use Rattle.std.specs.Prelude.{◌==◌, codes, if◌then◌else◌, length, pos}
 use Rattle.mg_bson.specs.Tree.{Fields}
-use Rattle.mg_link.specs.Calls.{Past, RequestFails}
+use Rattle.mg_server.specs.Calls.{Past, RequestFails}
 use Rattle.mg_link.specs.Errors.{plain}
-use Rattle.mg_link.specs.Files.{number_at}
-use Rattle.mg_link.specs.History.{IsLegal, Step}
+use Rattle.mg_server.specs.Files.{number_at}
+use Rattle.mg_server.specs.History.{IsLegal, Step}
 use Rattle.mg_link.specs.Link.{Awaited}
 use Rattle.mg_link.specs.Log.{Call}
-use Rattle.mg_link.specs.Standing.{Stands}
+use Rattle.mg_server.specs.Standing.{Stands}
 use Rattle.mg_link.specs.declared.error.BadArgument.{BadArgument}
 use Rattle.mg_link.specs.declared.error.BadArgument.TheVariants as argument
 use Rattle.mg_link.specs.declared.error.Error.{Error}

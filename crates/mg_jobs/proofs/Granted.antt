@@ -4,9 +4,10 @@ use Rattle.std.specs.Prelude.{if◌then◌else◌, codes, option_and_then, optio
 use Rattle.mg_bson.specs.Find.{get}
 use Rattle.mg_bson.specs.Raw.{fields}
 use Rattle.mg_bson.specs.Tree.{Fields}
-use Rattle.mg_link.specs.Commands.{Asked, Told, as_integer, asks_create, asks_delete, asks_drop, asks_indexes, asks_insert, asks_kill, asks_more, asks_other, asks_query, asks_update, asks_watch, batch_of, deleted, deleted_by, done, failures_at, garbled, gave_by, inserted, inserted_by, keeps_grammar, opened_by, success_by, time_in, told, told_by, updated, updated_by}
+use Rattle.mg_link.specs.Numbers.{as_integer}
+use Rattle.mg_server.specs.Commands.{Asked, Told, asks_create, asks_delete, asks_drop, asks_indexes, asks_insert, asks_kill, asks_more, asks_other, asks_query, asks_update, asks_watch, batch_of, deleted, deleted_by, done, failures_at, garbled, gave_by, inserted, inserted_by, keeps_grammar, opened_by, success_by, time_in, told, told_by, updated, updated_by}
 use Rattle.mg_link.specs.Exec.{IsSuccess}
-use Rattle.mg_link.specs.Prompt.{IsRefused}
+use Rattle.mg_server.specs.Prompt.{IsRefused}
 use Rattle.mg_link.specs.declared.reply.Verdict.{Verdict}
 
 abbrev RefusesNot : Option Told → Type 0

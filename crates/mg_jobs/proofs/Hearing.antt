@@ -6,12 +6,12 @@ use Rattle.mg_bson.specs.Raw.{IsDocument, fields, items}
 use Rattle.mg_bson.specs.Reading.{doc}
 use Rattle.mg_bson.specs.Spans.{array_inside, documents_inside, items_inside}
 use Rattle.mg_bson.proofs.Inside.{inside_value}
-use Rattle.mg_link.specs.Commands.{Batch, batch_of, documents_in}
+use Rattle.mg_server.specs.Commands.{Batch, batch_of, documents_in}
 use Rattle.mg_link.specs.Namespace.{Space, Target}
-use Rattle.mg_link.specs.Rules.{documents_of_items, id_unless, killed_reply, token_of, watch_space}
-use Rattle.mg_link.specs.State.{State}
-use Rattle.mg_link.proofs.Requests.{IsNamed}
-use Rattle.mg_link.proofs.Telling.{gave_reply, opened_reply, space_again}
+use Rattle.mg_server.specs.Rules.{documents_of_items, id_unless, killed_reply, token_of, watch_space}
+use Rattle.mg_server.specs.State.{State}
+use Rattle.mg_server.proofs.Requests.{IsNamed}
+use Rattle.mg_server.proofs.Telling.{gave_reply, opened_reply, space_again}
 use Rattle.mg_ops.specs.Cursors.{Cursor, cursor_of}
 use Rattle.mg_cursor.specs.Batches.{batch_in, documents_of, or_else}
 use Rattle.mg_players.proofs.Batches.{events_are}

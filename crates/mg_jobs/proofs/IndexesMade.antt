@@ -4,13 +4,13 @@ use Rattle.std.specs.Prelude.{if◌then◌else◌, option_map, slice_get, unwrap
 use Rattle.std.specs.Ordering.{int_eq}
 use Rattle.std.proofs.lemmas.Bool.{cases_Bool}
 use Rattle.mg_bson.specs.Tree.{Fields}
-use Rattle.mg_link.specs.Commands.{Asked, Told, asked, asks_create, asks_delete, asks_drop, asks_indexes, asks_insert, asks_kill, asks_more, asks_query, asks_update, asks_watch, deleted, done, gave, inserted, killed, opened, refuses, updated}
-use Rattle.mg_link.specs.History.{Step, state_after, state_of, step_after, told_at}
+use Rattle.mg_server.specs.Commands.{Asked, Told, asked, asks_create, asks_delete, asks_drop, asks_indexes, asks_insert, asks_kill, asks_more, asks_query, asks_update, asks_watch, deleted, done, gave, inserted, killed, opened, refuses, updated}
+use Rattle.mg_server.specs.History.{Step, state_after, state_of, step_after, told_at}
 use Rattle.mg_link.specs.Namespace.{Space}
-use Rattle.mg_link.specs.State.{Collection, Cursor, Index, State, change_documents, collection_in, comes_before, indexes_of, is_space, put_collection}
-use Rattle.mg_link.specs.Step.{Made, documents_of, effect, ends_cursor, grown, written}
-use Rattle.mg_link.specs.Write.{after_delete, after_update, with_indexes}
-use Rattle.mg_link.proofs.Collections.{is_space_self, put_is}
+use Rattle.mg_server.specs.State.{Collection, Cursor, Index, State, change_documents, collection_in, comes_before, indexes_of, is_space, put_collection}
+use Rattle.mg_server.specs.Step.{Made, documents_of, effect, ends_cursor, grown, written}
+use Rattle.mg_server.specs.Write.{after_delete, after_update, with_indexes}
+use Rattle.mg_server.proofs.Collections.{is_space_self, put_is}
 use Rattle.mg_link.proofs.Places.{get_some}
 use Rattle.mg_gridfs.specs.declared.indexes.Place.{Place}
 use Rattle.mg_gridfs.specs.declared.indexes.Place.TheVariants as place

@@ -4,13 +4,14 @@ use Rattle.std.specs.Prelude.{codes, option_and_then, unwrap_or, if◌then◌els
 use Rattle.mg_bson.specs.Tree.{Tree, Fields, Items, no_items, item}
 use Rattle.mg_bson.specs.Find.{as_array, as_document, get}
 use Rattle.mg_bson.specs.Raw.{fields}
-use Rattle.mg_link.specs.Commands.{Asked, Failure, Told, as_integer, asked, asks_insert, documents_in, failure_of, failures_at, failures_by, garbled, inserted, inserted_by, told_by, keeps_grammar, within_grammar}
-use Rattle.mg_link.specs.History.{Step, step_after, told_at}
+use Rattle.mg_link.specs.Numbers.{as_integer}
+use Rattle.mg_server.specs.Commands.{Asked, Failure, Told, asked, asks_insert, documents_in, failure_of, failures_at, failures_by, garbled, inserted, inserted_by, told_by, keeps_grammar, within_grammar}
+use Rattle.mg_server.specs.History.{Step, step_after, told_at}
 use Rattle.mg_link.specs.Namespace.{Space}
-use Rattle.mg_link.specs.Prompt.{AnswersAtOnce, MeetsConcern, rule_failures}
-use Rattle.mg_link.specs.Rules.{choose, insert_entry, inserted_reply, inserting, no_more, with_document, with_error}
-use Rattle.mg_link.specs.State.{State}
-use Rattle.mg_link.specs.Step.{Made, MayTell, documents_of, grown, written}
+use Rattle.mg_server.specs.Prompt.{AnswersAtOnce, MeetsConcern, rule_failures}
+use Rattle.mg_server.specs.Rules.{choose, insert_entry, inserted_reply, inserting, no_more, with_document, with_error}
+use Rattle.mg_server.specs.State.{State}
+use Rattle.mg_server.specs.Step.{Made, MayTell, documents_of, grown, written}
 use Rattle.mg_link.specs.declared.error.ErrorKind.{ErrorKind}
 use Rattle.mg_link.specs.declared.error.ErrorKind.TheVariants as kind
 use Rattle.mg_link.specs.declared.error.Malformed.TheVariants as malformed

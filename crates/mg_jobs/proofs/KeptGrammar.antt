@@ -4,13 +4,14 @@ use Rattle.std.specs.Prelude.{if◌then◌else◌, ◌&&◌, codes, is_some, opt
 use Rattle.mg_bson.specs.Find.{as_int32, as_string, get}
 use Rattle.mg_bson.specs.Raw.{fields}
 use Rattle.mg_bson.specs.Tree.{Fields, Items, Tree, array, document, item, no_items}
-use Rattle.mg_link.specs.Commands as commands
-use Rattle.mg_link.specs.Commands.{Asked, Told, are_write_errors, as_integer, asked, asks_create, asks_delete, asks_drop, asks_indexes, asks_insert, asks_kill, asks_more, asks_other, asks_query, asks_update, asks_watch, deleted, deleted_by, done, failures_at, garbled, inserted, inserted_by, is_concern_error, is_count, is_error, is_text_or_none, is_write_error, keeps_grammar, list_write_errors, told_by, updated_by}
+use Rattle.mg_server.specs.Commands as commands
+use Rattle.mg_link.specs.Numbers.{as_integer}
+use Rattle.mg_server.specs.Commands.{Asked, Told, are_write_errors, asked, asks_create, asks_delete, asks_drop, asks_indexes, asks_insert, asks_kill, asks_more, asks_other, asks_query, asks_update, asks_watch, deleted, deleted_by, done, failures_at, garbled, inserted, inserted_by, is_concern_error, is_count, is_error, is_text_or_none, is_write_error, keeps_grammar, list_write_errors, told_by, updated_by}
 use Rattle.mg_link.specs.Exec.{IsSuccess}
-use Rattle.mg_link.specs.Filter.{Condition}
-use Rattle.mg_link.specs.History.{Step}
+use Rattle.mg_server.specs.Filter.{Condition}
+use Rattle.mg_server.specs.History.{Step}
 use Rattle.mg_link.specs.Namespace.{Space}
-use Rattle.mg_link.specs.Step.{MayTell, grown}
+use Rattle.mg_server.specs.Step.{MayTell, grown}
 use Rattle.mg_link.specs.declared.error.Error.{Error}
 use Rattle.mg_link.specs.declared.error.ErrorKind.{ErrorKind}
 use Rattle.mg_link.specs.declared.error.ErrorKind.TheVariants as kind
@@ -59,7 +60,7 @@ error_read index fs kept =
     let parts = both_true (is_some (option_and_then as_int32 (get (codes "code") fs))) (is_text_or_none (get (codes "errmsg") fs)) kept in
     then_read (code_of fs) _ (found_read malformed.BadItem (option_and_then as_int32 (get (codes "code") fs)) parts.0) (λ code. then_read (message_of fs) _ (text_read (get (codes "errmsg") fs) parts.1) (λ message. tt))
 
-counted_read : (o : Option ℤ) → is_some (option_and_then commands.as_count o) ≡ true → IsRead (found malformed.BadItem (option_and_then as_count o))
+counted_read : (o : Option ℤ) → is_some (option_and_then as_count o) ≡ true → IsRead (found malformed.BadItem (option_and_then as_count o))
 counted_read (Some (pos n)) kept = tt
 counted_read (Some (negsuc n)) kept = absurd cc
 counted_read None kept = absurd cc

@@ -8,13 +8,14 @@ use Rattle.mg_bson.specs.Tree.{Fields}
 use Rattle.mg_bson.specs.Find.{get}
 use Rattle.mg_bson.specs.Raw.{fields}
 use Rattle.mg_bson.specs.Reading.{◌>>=◌}
-use Rattle.mg_link.specs.Commands.{asks_kill, count_of, create_fields, delete_by, delete_fields, delete_parts, documents_in, filter_at, filter_stages, find_fields, find_query, flag_or, has_only, indexes_fields, indexes_in, indexes_listed, indexing_fields, many_by, one_at, optional_count, pipeline_fields, piped, stages_in, start_of, batch_size}
-use Rattle.mg_link.specs.Filter.{Condition}
+use Rattle.mg_link.specs.Numbers.{count_of}
+use Rattle.mg_server.specs.Commands.{asks_kill, create_fields, delete_by, delete_fields, delete_parts, documents_in, filter_at, filter_stages, find_fields, find_query, flag_or, has_only, indexes_fields, indexes_in, indexes_listed, indexing_fields, many_by, one_at, optional_count, pipeline_fields, piped, stages_in, start_of, batch_size}
+use Rattle.mg_server.specs.Filter.{Condition}
 use Rattle.mg_link.specs.Namespace.{Space}
-use Rattle.mg_link.specs.Query.{Query}
-use Rattle.mg_link.specs.Rules.{Request, aggregate_request, array_at, bad_request, behind_first, create_request, delete, delete_request, find, find_request, id_of, indexes_request, insert_request, kill, list_indexes_request, more_request, named_space, option_names, or_code, or_request, pipeline_request, request_of, target_at, watch_options, watch_request, watch_with}
+use Rattle.mg_server.specs.Query.{Query}
+use Rattle.mg_server.specs.Rules.{Request, aggregate_request, array_at, bad_request, behind_first, create_request, delete, delete_request, find, find_request, id_of, indexes_request, insert_request, kill, list_indexes_request, more_request, named_space, option_names, or_code, or_request, pipeline_request, request_of, target_at, watch_options, watch_request, watch_with}
 use Rattle.mg_link.specs.Session.{Session}
-use Rattle.mg_link.proofs.Requests.{asked_is}
+use Rattle.mg_server.proofs.Requests.{asked_is}
 use Rattle.mg_ops.specs.Commands.{kill_command}
 use Rattle.mg_ops.specs.declared.aggregate.ChangeStreamAggregate.{ChangeStreamAggregate}
 use Rattle.mg_ops.proofs.Asking.{asks_to_kill_plainly}

@@ -4,13 +4,13 @@ use Rattle.std.specs.Prelude.{drop, length, map, option_and_then, option_map, sl
 use Rattle.std.proofs.lemmas.List.{length-map}
 use Rattle.mg_bson.specs.Tree.{Fields, Tree}
 use Rattle.mg_link.specs.Namespace.{Space}
-use Rattle.mg_link.specs.Query.{Query, id_index, index_listed, result, through}
-use Rattle.mg_link.specs.State.{Collection, Cursor, Index, State, collection_in, indexes_of, query, watching}
-use Rattle.mg_link.specs.Commands.{Asked, asked, asks_query}
-use Rattle.mg_link.specs.Step.{moved, queried_at}
-use Rattle.mg_link.specs.History.{IsLegal, Step, state_of, told_at}
-use Rattle.mg_link.specs.Standing.{OpensId}
-use Rattle.mg_link.proofs.Owners.{same_some}
+use Rattle.mg_server.specs.Query.{Query, id_index, index_listed, result, through}
+use Rattle.mg_server.specs.State.{Collection, Cursor, Index, State, collection_in, indexes_of, query, watching}
+use Rattle.mg_server.specs.Commands.{Asked, asked, asks_query}
+use Rattle.mg_server.specs.Step.{moved, queried_at}
+use Rattle.mg_server.specs.History.{IsLegal, Step, state_of, told_at}
+use Rattle.mg_server.specs.Standing.{OpensId}
+use Rattle.mg_server.proofs.Owners.{same_some}
 use Rattle.mg_gridfs.specs.Cursors.{indexes_query}
 use Rattle.mg_players.proofs.OpenedCursors.{Brings, stays_such}
 

@@ -6,16 +6,16 @@ use Rattle.std.proofs.lemmas.Bool.Decides.{Decides-int_eq}
 use Rattle.std.specs.Ordering.{int_eq}
 use Rattle.mg_bson.specs.Tree.{Tree, Fields}
 use Rattle.mg_link.specs.Namespace.{Space}
-use Rattle.mg_link.specs.Query.{Query, result}
-use Rattle.mg_link.specs.State.{Cursor, State, give, nothing, put_cursor, query, watching}
-use Rattle.mg_link.specs.Commands.{Asked, asks_insert, asks_update, asks_delete, asks_query, asks_watch, asks_more, asks_kill, asks_create, asks_indexes, asks_drop, Told, refuses, inserted, updated, deleted, done, opened, gave, killed, asked}
-use Rattle.mg_link.specs.Step.{May, effect, ends_cursor, grown, moved, queried_at, watching_at}
-use Rattle.mg_link.specs.History.{Step, step_after, state_after, state_of, told_at, IsLegal, IsLegalFrom}
-use Rattle.mg_link.specs.Standing.{OpensId}
-use Rattle.mg_link.proofs.Cursoring.{put_is, kept_from}
-use Rattle.mg_link.proofs.Later.{Respects, grown-cursors, later_step, opens_new, respects_of, respects_step}
-use Rattle.mg_link.proofs.Histories.{state_after-append}
-use Rattle.mg_link.proofs.Owners.{legal_back, same_some, state_one}
+use Rattle.mg_server.specs.Query.{Query, result}
+use Rattle.mg_server.specs.State.{Cursor, State, give, nothing, put_cursor, query, watching}
+use Rattle.mg_server.specs.Commands.{Asked, asks_insert, asks_update, asks_delete, asks_query, asks_watch, asks_more, asks_kill, asks_create, asks_indexes, asks_drop, Told, refuses, inserted, updated, deleted, done, opened, gave, killed, asked}
+use Rattle.mg_server.specs.Step.{May, effect, ends_cursor, grown, moved, queried_at, watching_at}
+use Rattle.mg_server.specs.History.{Step, step_after, state_after, state_of, told_at, IsLegal, IsLegalFrom}
+use Rattle.mg_server.specs.Standing.{OpensId}
+use Rattle.mg_server.proofs.Cursoring.{put_is, kept_from}
+use Rattle.mg_server.proofs.Later.{Respects, grown-cursors, later_step, opens_new, respects_of, respects_step}
+use Rattle.mg_server.proofs.Histories.{state_after-append}
+use Rattle.mg_server.proofs.Owners.{legal_back, same_some, state_one}
 use Rattle.mg_link.proofs.Places.{take_more}
 
 -- the cursor holds so many documents at most

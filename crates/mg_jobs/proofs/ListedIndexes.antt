@@ -4,18 +4,18 @@ use Rattle.std.specs.Prelude.{codes, unwrap_or}
 use Rattle.mg_bson.specs.Raw.{fields}
 use Rattle.mg_bson.specs.Reading.{◌>>=◌}
 use Rattle.mg_bson.specs.Tree.{Fields}
-use Rattle.mg_link.specs.Calls.{HeardBy, Past}
-use Rattle.mg_link.specs.Commands as commands
-use Rattle.mg_link.specs.Commands.{Asked, Batch, Told, asked, asked_by, asks_more, asks_other, asks_query, batch_of, garbled, gave_by, space_at}
+use Rattle.mg_server.specs.Calls.{HeardBy, Past}
+use Rattle.mg_server.specs.Commands as commands
+use Rattle.mg_server.specs.Commands.{Asked, Batch, Told, asked, asked_by, asks_more, asks_other, asks_query, batch_of, garbled, gave_by, space_at}
 use Rattle.mg_link.specs.Exec.{IsSuccess}
-use Rattle.mg_link.specs.History.{IsLegal, Step, state_of, told_at}
+use Rattle.mg_server.specs.History.{IsLegal, Step, state_of, told_at}
 use Rattle.mg_link.specs.Log.{reply}
 use Rattle.mg_link.specs.Namespace.{Space, space}
-use Rattle.mg_link.specs.Query.{index_listed}
-use Rattle.mg_link.specs.Standing.{OpensId, Stands}
-use Rattle.mg_link.specs.State.{Cursor, Index, query, watching}
-use Rattle.mg_link.specs.Step.{grown}
-use Rattle.mg_link.proofs.Watched.{no_zero}
+use Rattle.mg_server.specs.Query.{index_listed}
+use Rattle.mg_server.specs.Standing.{OpensId, Stands}
+use Rattle.mg_server.specs.State.{Cursor, Index, query, watching}
+use Rattle.mg_server.specs.Step.{grown}
+use Rattle.mg_server.proofs.Watched.{no_zero}
 use Rattle.mg_options.specs.Fields.{fields_in}
 use Rattle.mg_ops.specs.Cursors as cursors
 use Rattle.mg_ops.specs.Cursors.{OpensWith, cursor_of}

@@ -6,9 +6,10 @@ use Rattle.mg_bson.specs.Find.{as_array, get}
 use Rattle.mg_bson.specs.Raw.{fields}
 use Rattle.mg_bson.specs.Reading.{◌>>=◌}
 use Rattle.mg_bson.specs.Tree.{Fields}
-use Rattle.mg_link.specs.Commands.{Asked, as_integer, asked, asked_by, asks_create, asks_delete, asks_drop, asks_indexes, asks_insert, asks_more, asks_other, asks_query, count_of, create_fields, create_of, delete_by, delete_fields, delete_of, delete_parts, documents_in, filter_at, find_fields, find_of, find_query, flag_or, has_only, indexes_fields, indexes_in, indexes_listed, indexes_query, indexing_fields, indexing_of, insert_of, many_by, more_of, one_at, space_at}
+use Rattle.mg_link.specs.Numbers.{as_integer, count_of}
+use Rattle.mg_server.specs.Commands.{Asked, asked, asked_by, asks_create, asks_delete, asks_drop, asks_indexes, asks_insert, asks_more, asks_other, asks_query, create_fields, create_of, delete_by, delete_fields, delete_of, delete_parts, documents_in, filter_at, find_fields, find_of, find_query, flag_or, has_only, indexes_fields, indexes_in, indexes_listed, indexes_query, indexing_fields, indexing_of, insert_of, many_by, more_of, one_at, space_at}
 use Rattle.mg_link.specs.Namespace.{Space, target}
-use Rattle.mg_link.specs.State.{Index}
+use Rattle.mg_server.specs.State.{Index}
 use Rattle.mg_options.specs.Fields.{Line, fields_in}
 use Rattle.mg_ops.specs.Aims.{Aim, aim_of, asked_for}
 use Rattle.mg_ops.specs.Bodies.{create_indexes_body, insert_command}

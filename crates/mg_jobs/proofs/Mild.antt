@@ -5,13 +5,14 @@ use Rattle.std.proofs.lemmas.Bool.{cases_Bool, and_parts, leb-true}
 use Rattle.mg_bson.specs.Tree.{Fields, Items}
 use Rattle.mg_bson.specs.Find.{get}
 use Rattle.mg_bson.specs.Reading.{◌>>=◌}
-use Rattle.mg_link.specs.Commands.{Asked, asked_by, asks_delete, asks_drop, asks_insert, asks_other, asks_update, count_of, create_fields, delete_by, delete_fields, delete_parts, documents_in, filter_at, find_fields, find_query, flag_or, has_only, indexes_fields, indexes_in, indexes_listed, indexing_fields, many_by, one_at, text_of}
-use Rattle.mg_link.specs.Filter.{Condition, has_dot}
-use Rattle.mg_link.specs.Namespace.{Space}
-use Rattle.mg_link.specs.Query.{Query}
-use Rattle.mg_link.specs.Rules.{Request, array_at, as_name, bad_request, create_collection, create_indexes, create_request, delete, delete_request, drop_collection, find, find_request, indexes_request, insert, insert_request, kill, list_indexes_request, max_name, more, name_at, named_space, or_code, request_of, update, watch, without_dot}
-use Rattle.mg_link.specs.State.{Index}
-use Rattle.mg_link.proofs.Requests.{and_then_some, asks_of, request_reads, then_some, when_some}
+use Rattle.mg_link.specs.Numbers.{count_of}
+use Rattle.mg_server.specs.Commands.{Asked, asked_by, asks_delete, asks_drop, asks_insert, asks_other, asks_update, create_fields, delete_by, delete_fields, delete_parts, documents_in, filter_at, find_fields, find_query, flag_or, has_only, indexes_fields, indexes_in, indexes_listed, indexing_fields, many_by, one_at, text_of}
+use Rattle.mg_link.specs.Namespace.{has_dot, Space}
+use Rattle.mg_server.specs.Filter.{Condition}
+use Rattle.mg_server.specs.Query.{Query}
+use Rattle.mg_server.specs.Rules.{Request, array_at, as_name, bad_request, create_collection, create_indexes, create_request, delete, delete_request, drop_collection, find, find_request, indexes_request, insert, insert_request, kill, list_indexes_request, max_name, more, name_at, named_space, or_code, request_of, update, watch, without_dot}
+use Rattle.mg_server.specs.State.{Index}
+use Rattle.mg_server.proofs.Requests.{and_then_some, asks_of, request_reads, then_some, when_some}
 
 -- a collection with short names
 abbrev pub FitsNames : Space → Type 0

@@ -4,16 +4,16 @@ use Rattle.std.specs.Prelude.{slice_get}
 use Rattle.std.specs.List.{concat}
 use Rattle.mg_bson.specs.Tree.{Fields}
 use Rattle.mg_bson.specs.Raw.{fields}
-use Rattle.mg_link.specs.Calls.{HeardBy}
-use Rattle.mg_link.specs.Commands.{asked}
+use Rattle.mg_server.specs.Calls.{HeardBy}
+use Rattle.mg_server.specs.Commands.{asked}
 use Rattle.mg_link.specs.Exec.{IsSuccess}
-use Rattle.mg_link.specs.History.{IsLegal, Step, state_of, told_at}
+use Rattle.mg_server.specs.History.{IsLegal, Step, state_of, told_at}
 use Rattle.mg_link.specs.Log.{Call, Sight, reply}
-use Rattle.mg_link.specs.Owner.{IsOf}
-use Rattle.mg_link.specs.Standing.{OpensId, SeenFits, Stands}
-use Rattle.mg_link.specs.State.{State}
+use Rattle.mg_server.specs.Owner.{IsOf}
+use Rattle.mg_server.specs.Standing.{OpensId, SeenFits, Stands}
+use Rattle.mg_server.specs.State.{State}
 use Rattle.mg_link.proofs.Places.{get_within}
-use Rattle.mg_link.proofs.Watched.{AsksToWatch, IsWatched}
+use Rattle.mg_server.proofs.Watched.{AsksToWatch, IsWatched}
 use Rattle.mg_options.specs.Fields.{fields_in}
 use Rattle.mg_ops.specs.Aims.{aim_of}
 use Rattle.mg_ops.specs.Bodies.{watch_body}

@@ -4,10 +4,10 @@ use Rattle.std.specs.Prelude.{codes, is_some, ltb}
 use Rattle.mg_bson.specs.Tree.{Tree, document, Fields}
 use Rattle.mg_bson.specs.Find.{get}
 use Rattle.mg_bson.specs.Literal.{◌⇒◌⨾◌, empty}
-use Rattle.mg_link.specs.Commands.{as_collection, batch_size, filter_stages, flag_or, has_only, pipeline_fields, stages_in, start_of as start_in}
-use Rattle.mg_link.specs.Filter.{Condition}
-use Rattle.mg_link.specs.Namespace.{Target, database, collection, cluster}
-use Rattle.mg_link.specs.Rules.{Request, aggregate_request, bad_request, or_code, or_request, pipeline_request, as_name, option_names, request_of, target_at, watch, watch_request, without_dot}
+use Rattle.mg_link.specs.Namespace.{as_collection, Target, database, collection, cluster}
+use Rattle.mg_server.specs.Commands.{batch_size, filter_stages, flag_or, has_only, pipeline_fields, stages_in, start_of as start_in}
+use Rattle.mg_server.specs.Filter.{Condition}
+use Rattle.mg_server.specs.Rules.{Request, aggregate_request, bad_request, or_code, or_request, pipeline_request, as_name, option_names, request_of, target_at, watch, watch_request, without_dot}
 use Rattle.mg_bson.specs.declared.tree.Timestamp.{Timestamp}
 use Rattle.mg_options.specs.Options.{change_stream_fields, no_options}
 use Rattle.mg_options.specs.declared.change_stream.ChangeStreamOptions.{ChangeStreamOptions}

@@ -4,17 +4,17 @@ use Rattle.std.specs.Prelude.{if◌then◌else◌, ◌&&◌, slice_get}
 use Rattle.std.proofs.lemmas.Bool.{lt-ltb}
 use Rattle.mg_bson.specs.Tree.{Tree, Fields}
 use Rattle.mg_bson.specs.Raw.{fields}
-use Rattle.mg_link.specs.Commands.{Asked, asked, asks_watch, filter_stages, opened, told}
-use Rattle.mg_link.specs.Filter.{Condition}
+use Rattle.mg_server.specs.Commands.{Asked, asked, asks_watch, filter_stages, opened, told}
+use Rattle.mg_server.specs.Filter.{Condition}
 use Rattle.mg_link.specs.Namespace.{Target, database, collection, cluster}
-use Rattle.mg_link.specs.Prompt.{IsRefused}
-use Rattle.mg_link.specs.Rules.{Answer, Request, and_then, answer, answer_of, answer_with, batch_events, batch_id, batch_place, ended_before, ends_with, fitting, map_ok, max_name, no_such_token, place_after, place_at, request_of, size_of, token_of, token_place, watch, watch_reply, watch_space, now_of}
-use Rattle.mg_link.specs.State.{Entry, Start, State, Watch, is_invalidate, sees}
-use Rattle.mg_link.specs.State as state
-use Rattle.mg_link.proofs.Allowed.{place_fits}
-use Rattle.mg_link.proofs.Filling.{is_full_batch}
-use Rattle.mg_link.proofs.Requests.{request_reads, asked_is}
-use Rattle.mg_link.proofs.Telling.{opened_tells, told_reads}
+use Rattle.mg_server.specs.Prompt.{IsRefused}
+use Rattle.mg_server.specs.Rules.{Answer, Request, and_then, answer, answer_of, answer_with, batch_events, batch_id, batch_place, ended_before, ends_with, fitting, map_ok, max_name, no_such_token, place_after, place_at, request_of, size_of, token_of, token_place, watch, watch_reply, watch_space, now_of}
+use Rattle.mg_server.specs.State.{Entry, Start, State, Watch, is_invalidate, sees}
+use Rattle.mg_server.specs.State as state
+use Rattle.mg_server.proofs.Allowed.{place_fits}
+use Rattle.mg_server.proofs.Filling.{is_full_batch}
+use Rattle.mg_server.proofs.Requests.{request_reads, asked_is}
+use Rattle.mg_server.proofs.Telling.{opened_tells, told_reads}
 use Rattle.mg_ops.specs.Bodies.{watch_command}
 use Rattle.mg_ops.specs.Limits.{SizePasses}
 use Rattle.mg_jobs.proofs.Sizes.{watch_small}

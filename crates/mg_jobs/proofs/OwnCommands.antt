@@ -5,12 +5,13 @@ use Rattle.mg_bson.specs.Tree.{Tree, Fields, document}
 use Rattle.mg_bson.specs.Find.{get}
 use Rattle.mg_bson.specs.Raw.{fields}
 use Rattle.mg_bson.specs.declared.tree.Timestamp.{Timestamp}
-use Rattle.mg_link.specs.Commands.{Asked, asked, asked_by, asks_more, asks_other, asks_watch, as_integer, filter_stages, more_of, space_at}
-use Rattle.mg_link.specs.Filter.{Condition}
+use Rattle.mg_link.specs.Numbers.{as_integer}
+use Rattle.mg_server.specs.Commands.{Asked, asked, asked_by, asks_more, asks_other, asks_watch, filter_stages, more_of, space_at}
+use Rattle.mg_server.specs.Filter.{Condition}
 use Rattle.mg_link.specs.Namespace.{Space, Target, database, collection, cluster, target}
 use Rattle.mg_link.specs.Session.{Session}
-use Rattle.mg_link.specs.State.{Start, Watch}
-use Rattle.mg_link.proofs.Watched.{AsksToWatch}
+use Rattle.mg_server.specs.State.{Start, Watch}
+use Rattle.mg_server.proofs.Watched.{AsksToWatch}
 use Rattle.mg_options.specs.Fields.{fields_in}
 use Rattle.mg_options.specs.declared.change_stream.ChangeStreamOptions.{ChangeStreamOptions}
 use Rattle.mg_ops.specs.Aims.{Aim, aim, asked_for}

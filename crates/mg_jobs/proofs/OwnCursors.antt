@@ -3,15 +3,15 @@ use Rattle.std.proofs.Common.{◌≡◌, ◌⊎◌, ◌<◌, ◌≤◌, ◌+◌,
 use Rattle.std.specs.Prelude.{cond, nat_eq, slice_get, slice_set}
 use Rattle.std.proofs.lemmas.Bool.{cases_eq, cases_lt}
 use Rattle.std.proofs.lemmas.List.Sums.{sum_by-cons}
-use Rattle.mg_link.specs.Commands.{asked}
-use Rattle.mg_link.specs.History.{IsLegal, Step, told_at}
+use Rattle.mg_server.specs.Commands.{asked}
+use Rattle.mg_server.specs.History.{IsLegal, Step, told_at}
 use Rattle.mg_link.specs.Log.{Call}
-use Rattle.mg_link.specs.Owner.{Apart, AreApart, Earlier, Holds, IsGrown, IsOf, NoneNames, Onward, Owner, Owns, Passes, by_id, by_reply, nobody}
-use Rattle.mg_link.specs.Standing.{GivenTo, Names, OpensId, Stands, TookEffect}
-use Rattle.mg_link.proofs.Apart.{given_of, owns_back}
-use Rattle.mg_link.proofs.Owners.{same_some, took_back, took_grown}
+use Rattle.mg_server.specs.Owner.{Apart, AreApart, Earlier, Holds, IsGrown, IsOf, NoneNames, Onward, Owner, Owns, Passes, by_id, by_reply, nobody}
+use Rattle.mg_server.specs.Standing.{GivenTo, Names, OpensId, Stands, TookEffect}
+use Rattle.mg_server.proofs.Apart.{given_of, owns_back}
+use Rattle.mg_server.proofs.Owners.{same_some, took_back, took_grown}
 use Rattle.mg_link.proofs.Places.{get_joined, get_set_other, get_set_same, get_some, get_within}
-use Rattle.mg_link.proofs.Runs.{OwnsNothing, others_onward}
+use Rattle.mg_server.proofs.Runs.{OwnsNothing, others_onward}
 use Rattle.mg_gridfs.proofs.Fronts.{nobody_onward}
 use Rattle.mg_players.specs.Causes.{Course, places_from, places_in, places_of, sent_since}
 use Rattle.mg_players.specs.Owned.{AllOwn, NamesNoOthers, OwnsItsOwn}

@@ -4,11 +4,11 @@ use Rattle.std.specs.Prelude.{cond, nat_eq, option_and_then, slice_get}
 use Rattle.std.proofs.lemmas.Bool.{eq-eqb}
 use Rattle.std.proofs.lemmas.List.Elements.{Contains-append_right}
 use Rattle.std.proofs.lemmas.List.Sums.{sum_by-cons}
-use Rattle.mg_link.specs.History.{IsLegal, Step}
+use Rattle.mg_server.specs.History.{IsLegal, Step}
 use Rattle.mg_link.specs.Log.{Call}
-use Rattle.mg_link.specs.Owner.{IsOf}
-use Rattle.mg_link.specs.Prompt.{HoldsBackNone}
-use Rattle.mg_link.specs.Standing.{Stands}
+use Rattle.mg_server.specs.Owner.{IsOf}
+use Rattle.mg_server.specs.Prompt.{HoldsBackNone}
+use Rattle.mg_server.specs.Standing.{Stands}
 use Rattle.mg_players.specs.Causes.{Course, SentIn, places_from, places_in, places_of}
 use Rattle.mg_jobs.specs.Completing.{AnswersWell, AnswersWellIn, NoneRefused, own_position, positions_at}
 use Rattle.mg_jobs.proofs.Created.{CreationsMeet, prompt_where_taken}

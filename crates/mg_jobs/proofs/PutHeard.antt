@@ -5,29 +5,30 @@ use Rattle.mg_bson.specs.Find.{get}
 use Rattle.mg_bson.specs.Raw.{fields}
 use Rattle.mg_bson.specs.Reading.{doc}
 use Rattle.mg_bson.specs.Tree.{Fields, no_fields}
-use Rattle.mg_link.specs.Calls.{Grows, HeardBy, HeardLast, IsOwn, Past, RequestFails, out_of_memory, was_broken, was_lost, was_refused}
-use Rattle.mg_link.specs.Commands.{Asked, Batch, Failure, Told, as_integer, asked, asks_create, asks_delete, asks_indexes, asks_insert, asks_other, asks_query, batch_of, deleted, deleted_by, failures_at, garbled, keeps_grammar, opened_by, time_in, told_by}
+use Rattle.mg_server.specs.Calls.{Grows, HeardBy, HeardLast, IsOwn, Past, RequestFails, out_of_memory, was_broken, was_lost, was_refused}
+use Rattle.mg_link.specs.Numbers.{as_integer}
+use Rattle.mg_server.specs.Commands.{Asked, Batch, Failure, Told, asked, asks_create, asks_delete, asks_indexes, asks_insert, asks_other, asks_query, batch_of, deleted, deleted_by, failures_at, garbled, keeps_grammar, opened_by, time_in, told_by}
 use Rattle.mg_link.specs.Errors.{command_code}
 use Rattle.mg_link.specs.Exec.{FailsAs, FailsByReply, IsSuccess}
 use Rattle.mg_link.specs.Failures.{refusal_by}
-use Rattle.mg_link.specs.Files.{has_value}
-use Rattle.mg_link.specs.Filter.{Condition}
-use Rattle.mg_link.specs.History.{Step, state_of, step_after, told_at}
+use Rattle.mg_server.specs.Files.{has_value}
+use Rattle.mg_server.specs.Filter.{Condition}
+use Rattle.mg_server.specs.History.{Step, state_of, step_after, told_at}
 use Rattle.mg_link.specs.Log.{fault, reply}
 use Rattle.mg_link.specs.Namespace.{Space}
-use Rattle.mg_link.specs.Prompt.{AnswersAtOnce, MeetsConcern}
-use Rattle.mg_link.specs.Query.{Query}
+use Rattle.mg_server.specs.Prompt.{AnswersAtOnce, MeetsConcern}
+use Rattle.mg_server.specs.Query.{Query}
 use Rattle.mg_link.specs.Reply.{Refusal, code_of, refusal_of, verdict_of}
 use Rattle.mg_link.specs.Session.{Session}
-use Rattle.mg_link.specs.State.{Index, State}
-use Rattle.mg_link.specs.Step.{Made, MayTell, documents_of, grown}
-use Rattle.mg_link.specs.Write.{chosen}
+use Rattle.mg_server.specs.State.{Index, State}
+use Rattle.mg_server.specs.Step.{Made, MayTell, documents_of, grown}
+use Rattle.mg_server.specs.Write.{chosen}
 use Rattle.mg_link.specs.declared.error.Error.{Error}
 use Rattle.mg_link.specs.declared.error.ErrorKind.{ErrorKind}
 use Rattle.mg_link.specs.declared.error.ErrorKind.TheVariants as kind
 use Rattle.mg_link.specs.declared.reply.Verdict.{Verdict}
 use Rattle.mg_link.specs.declared.reply.Verdict.TheVariants as verdict
-use Rattle.mg_link.proofs.Pasts.{heard_at_grows, heard_by, heard_grows}
+use Rattle.mg_server.proofs.Pasts.{heard_at_grows, heard_by, heard_grows}
 use Rattle.mg_options.specs.Fields.{fields_in}
 use Rattle.mg_ops.specs.Naming.{IsNamed}
 use Rattle.mg_ops.specs.Writes.{WriteFails, failures_of}

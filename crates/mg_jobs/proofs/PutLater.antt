@@ -2,13 +2,13 @@
 use Rattle.std.proofs.Common.{◌≡◌, ◌<◌, ℕ, ℤ, Bool, true, false, List, Option, Some, None, length, refl, sym, ap, ◌∙◌, inl, inr, arith}
 use Rattle.std.specs.Prelude.{slice_get}
 use Rattle.std.proofs.lemmas.Bool.{cases_lt}
-use Rattle.mg_link.specs.Calls.{Past}
-use Rattle.mg_link.specs.Files.{chunks_space, files_space}
-use Rattle.mg_link.specs.History.{Step}
+use Rattle.mg_server.specs.Calls.{Past}
+use Rattle.mg_server.specs.Files.{chunks_space, files_space}
+use Rattle.mg_server.specs.History.{Step}
 use Rattle.mg_link.specs.Log.{Call}
-use Rattle.mg_link.specs.Owner.{IsOf}
-use Rattle.mg_link.specs.Standing.{Stands}
-use Rattle.mg_link.proofs.Owners.{same_some}
+use Rattle.mg_server.specs.Owner.{IsOf}
+use Rattle.mg_server.specs.Standing.{Stands}
+use Rattle.mg_server.proofs.Owners.{same_some}
 use Rattle.mg_ops.specs.Naming.{IsNamed}
 use Rattle.mg_players.specs.Causes.{AreSentIn, Course, commands_at, places_of}
 use Rattle.mg_players.specs.Files.{IsStepOf}

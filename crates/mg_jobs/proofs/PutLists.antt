@@ -5,22 +5,22 @@ use Rattle.std.proofs.lemmas.List.{length-map}
 use Rattle.std.specs.Ordering.{int_eq}
 use Rattle.mg_bson.specs.Raw.{fields}
 use Rattle.mg_bson.specs.Tree.{Fields, Tree}
-use Rattle.mg_link.specs.Calls.{HeardAt, HeardBy, Past}
-use Rattle.mg_link.specs.Commands.{Asked, Batch, Told, asked, asks_more, asks_query, batch_of, documents_in, garbled, gave_by, opened, opened_by, time_in}
+use Rattle.mg_server.specs.Calls.{HeardAt, HeardBy, Past}
+use Rattle.mg_server.specs.Commands.{Asked, Batch, Told, asked, asks_more, asks_query, batch_of, documents_in, garbled, gave_by, opened, opened_by, time_in}
 use Rattle.mg_link.specs.Exec.{IsSuccess}
-use Rattle.mg_link.specs.History.{IsLegal, Step, state_of, step_after, told_at}
+use Rattle.mg_server.specs.History.{IsLegal, Step, state_of, step_after, told_at}
 use Rattle.mg_link.specs.Log.{fault, reply}
 use Rattle.mg_link.specs.Namespace.{Space, space}
-use Rattle.mg_link.specs.Prompt.{AnswersAtOnce}
-use Rattle.mg_link.specs.Query.{Query, id_index, index_listed, result, through}
+use Rattle.mg_server.specs.Prompt.{AnswersAtOnce}
+use Rattle.mg_server.specs.Query.{Query, id_index, index_listed, result, through}
 use Rattle.mg_link.specs.Session.{Session}
-use Rattle.mg_link.specs.Standing.{OpensId}
-use Rattle.mg_link.specs.State.{Collection, Cursor, Index, State, collection_in, give, indexes_of, put_cursor, query, watching}
-use Rattle.mg_link.specs.Step.{Made, effect, grown, queried_at}
+use Rattle.mg_server.specs.Standing.{OpensId}
+use Rattle.mg_server.specs.State.{Collection, Cursor, Index, State, collection_in, give, indexes_of, put_cursor, query, watching}
+use Rattle.mg_server.specs.Step.{Made, effect, grown, queried_at}
 use Rattle.mg_link.specs.declared.error.Error.{Error}
 use Rattle.mg_link.specs.declared.error.ErrorKind.TheVariants as kind
-use Rattle.mg_link.proofs.Later.{grown-cursors, opens_given}
-use Rattle.mg_link.proofs.Watched.{no_zero}
+use Rattle.mg_server.proofs.Later.{grown-cursors, opens_given}
+use Rattle.mg_server.proofs.Watched.{no_zero}
 use Rattle.mg_options.specs.Fields.{fields_in}
 use Rattle.mg_ops.specs.Cursors as cursors
 use Rattle.mg_ops.specs.Cursors.{Manner, OpensWith, cursor_of, next_command}

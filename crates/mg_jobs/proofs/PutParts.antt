@@ -3,10 +3,10 @@ use Rattle.std.proofs.Common.{◌≡◌, ◌<◌, ◌≤◌, ◌++◌, ◌∷◌
 use Rattle.std.specs.Prelude.{slice_get}
 use Rattle.mg_bson.specs.Raw.{fields}
 use Rattle.mg_bson.specs.Tree.{Fields}
-use Rattle.mg_link.specs.Files.{chunks_space, files_space}
-use Rattle.mg_link.specs.Calls.{Past}
+use Rattle.mg_server.specs.Files.{chunks_space, files_space}
+use Rattle.mg_server.specs.Calls.{Past}
 use Rattle.mg_link.specs.Log.{Call}
-use Rattle.mg_link.specs.Owner.{IsOf}
+use Rattle.mg_server.specs.Owner.{IsOf}
 use Rattle.mg_options.specs.Fields.{Line, fields_in}
 use Rattle.mg_ops.specs.Naming.{IsNamed}
 use Rattle.mg_gridfs.specs.Buckets.{ClientBucket}

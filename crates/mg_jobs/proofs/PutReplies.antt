@@ -11,20 +11,20 @@ use Rattle.mg_bson.specs.Find.{get}
 use Rattle.mg_bson.specs.Literal.{◌⇒◌⨾◌, empty}
 use Rattle.mg_bson.specs.Raw.{fields}
 use Rattle.mg_bson.specs.Tree.{Fields, Tree, field, no_fields}
-use Rattle.mg_link.specs.Commands.{Asked, Told, asked, asks_create, asks_query, deleted, done, opened, refuses, told, told_by}
-use Rattle.mg_link.specs.Files.{has_value}
-use Rattle.mg_link.specs.Filter.{Condition, matches}
+use Rattle.mg_server.specs.Commands.{Asked, Told, asked, asks_create, asks_query, deleted, done, opened, refuses, told, told_by}
+use Rattle.mg_server.specs.Files.{has_value}
+use Rattle.mg_server.specs.Filter.{Condition, matches}
 use Rattle.mg_link.specs.Namespace.{Space}
-use Rattle.mg_link.specs.Prompt.{IsRefused}
-use Rattle.mg_link.specs.Query.{Query, id_alone, id_index, index_listed, limits, of_collection, result, selects, shows_id, through}
+use Rattle.mg_server.specs.Prompt.{IsRefused}
+use Rattle.mg_server.specs.Query.{Query, id_alone, id_index, index_listed, limits, of_collection, result, selects, shows_id, through}
 use Rattle.mg_link.specs.Reply.{verdict_of}
-use Rattle.mg_link.specs.Rules.{Answer, Request, and_then, answer, answer_of, answer_with, bad_request, batch_of_query, bytes_of, collection_exists, create_collection, create_indexes, create_request, delete, delete_request, deleted_entries, deleted_event, deleted_reply, done_reply, events_may_be_given, find, find_request, fitting, id_while, indexes_request, list_indexes_request, map_ok, max_document, max_given_levels, may_stay, named_space, no_such_collection, or_code, query_reply, refused, request_of}
-use Rattle.mg_link.specs.State.{Collection, Entry, Index, State, collection_in, indexes_of}
-use Rattle.mg_link.specs.Step.{documents_of}
-use Rattle.mg_link.specs.Write.{chosen, with_indexes}
-use Rattle.mg_link.proofs.Batched.{is_full}
-use Rattle.mg_link.proofs.Requests.{asked_is, asks_of}
-use Rattle.mg_link.proofs.Telling.{created_tells, deleted_tells, indexed_tells, refusal_tells, told_reads}
+use Rattle.mg_server.specs.Rules.{Answer, Request, and_then, answer, answer_of, answer_with, bad_request, batch_of_query, bytes_of, collection_exists, create_collection, create_indexes, create_request, delete, delete_request, deleted_entries, deleted_event, deleted_reply, done_reply, events_may_be_given, find, find_request, fitting, id_while, indexes_request, list_indexes_request, map_ok, max_document, max_given_levels, may_stay, named_space, no_such_collection, or_code, query_reply, refused, request_of}
+use Rattle.mg_server.specs.State.{Collection, Entry, Index, State, collection_in, indexes_of}
+use Rattle.mg_server.specs.Step.{documents_of}
+use Rattle.mg_server.specs.Write.{chosen, with_indexes}
+use Rattle.mg_server.proofs.Batched.{is_full}
+use Rattle.mg_server.proofs.Requests.{asked_is, asks_of}
+use Rattle.mg_server.proofs.Telling.{created_tells, deleted_tells, indexed_tells, refusal_tells, told_reads}
 use Rattle.mg_options.specs.Fields.{fields_in}
 use Rattle.mg_ops.specs.Bodies.{create_body, create_indexes_body, delete_body, find_body, list_indexes_body}
 use Rattle.mg_ops.specs.Plain.{plain_delete, plain_index, plain_indexes}

@@ -4,25 +4,25 @@ use Rattle.std.specs.Prelude.{slice_get, slice_index_or}
 use Rattle.std.specs.List.{concat}
 use Rattle.mg_bson.specs.Raw.{fields}
 use Rattle.mg_bson.specs.Tree.{Fields, Tree}
-use Rattle.mg_link.specs.Calls.{HeardAt, HeardBy, Past}
-use Rattle.mg_link.specs.Commands.{Asked, Told, asked, asks_create, asks_more, asks_other, deleted, done, garbled, gave, inserted, killed, opened, opened_by, refuses, time_in, told, updated}
+use Rattle.mg_server.specs.Calls.{HeardAt, HeardBy, Past}
+use Rattle.mg_server.specs.Commands.{Asked, Told, asked, asks_create, asks_more, asks_other, deleted, done, garbled, gave, inserted, killed, opened, opened_by, refuses, time_in, told, updated}
 use Rattle.mg_link.specs.Exec.{IsSuccess}
-use Rattle.mg_link.specs.History.{IsLegal, Step, state_of, step_after, told_at}
-use Rattle.mg_link.specs.Kept.{IsByRules as AreByRules, Kept, steps_of}
-use Rattle.mg_link.specs.Files.{chunks_space, files_space}
+use Rattle.mg_server.specs.History.{IsLegal, Step, state_of, step_after, told_at}
+use Rattle.mg_server.specs.Kept.{IsByRules as AreByRules, Kept, steps_of}
+use Rattle.mg_server.specs.Files.{chunks_space, files_space}
 use Rattle.mg_link.specs.Link.{Awaited}
 use Rattle.mg_link.specs.Log.{Call, Sight, reply}
 use Rattle.mg_link.specs.Namespace.{Space, space}
-use Rattle.mg_link.specs.Owner.{IsOf, NamesItsOwn}
-use Rattle.mg_link.specs.Prompt.{HoldsBackNone, IsPrompt}
-use Rattle.mg_link.specs.Rules.{collection_exists}
+use Rattle.mg_server.specs.Owner.{IsOf, NamesItsOwn}
+use Rattle.mg_server.specs.Prompt.{HoldsBackNone, IsPrompt}
+use Rattle.mg_server.specs.Rules.{collection_exists}
 use Rattle.mg_link.specs.Session.{Session}
-use Rattle.mg_link.specs.Standing.{Names, OpensId, SeenFits, Stands}
-use Rattle.mg_link.specs.State.{State, indexes_of}
-use Rattle.mg_link.specs.Step.{Made, MayTell, effect, grown}
-use Rattle.mg_link.proofs.Owners.{same_some}
+use Rattle.mg_server.specs.Standing.{Names, OpensId, SeenFits, Stands}
+use Rattle.mg_server.specs.State.{State, indexes_of}
+use Rattle.mg_server.specs.Step.{Made, MayTell, effect, grown}
+use Rattle.mg_server.proofs.Owners.{same_some}
 use Rattle.mg_link.proofs.Places.{get_within}
-use Rattle.mg_link.proofs.SelfMade.{names_whole}
+use Rattle.mg_server.proofs.SelfMade.{names_whole}
 use Rattle.mg_ops.specs.Bodies.{insert_command}
 use Rattle.mg_ops.specs.Cursors as cursors
 use Rattle.mg_ops.specs.Cursors.{OpensWith, cursor_of}

@@ -1,7 +1,7 @@
 -- What a put tells at the end of a run says what caused its outcome.
 use Rattle.std.proofs.Common.{◌≡◌, ◌++◌, ℕ, suc, ℤ, true, false, List, [], length, sym, ap, ◌∙◌, subst}
 use Rattle.std.specs.List.{concat}
-use Rattle.mg_link.specs.Calls.{Past}
+use Rattle.mg_server.specs.Calls.{Past}
 use Rattle.mg_link.specs.Link.{Awaited}
 use Rattle.mg_link.specs.Log.{Call}
 use Rattle.mg_gridfs.specs.UploadView.{upload_of}

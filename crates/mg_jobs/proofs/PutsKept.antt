@@ -2,22 +2,22 @@
 use Rattle.std.proofs.Common.{◌≡◌, ℕ, true, false, List, [], ◌∷◌, length, Some, None, subst, inl, inr}
 use Rattle.mg_bson.specs.Raw.{fields}
 use Rattle.mg_bson.specs.Tree.{Fields}
-use Rattle.mg_link.specs.Calls.{Grows, HeardBy, Past, RequestFails}
-use Rattle.mg_link.specs.Commands.{asked, asks_other}
+use Rattle.mg_server.specs.Calls.{Grows, HeardBy, Past, RequestFails}
+use Rattle.mg_server.specs.Commands.{asked, asks_other}
 use Rattle.mg_link.specs.Exec.{IsSuccess}
-use Rattle.mg_link.specs.History.{IsLegal, Step}
+use Rattle.mg_server.specs.History.{IsLegal, Step}
 use Rattle.mg_link.specs.Log.{reply}
-use Rattle.mg_link.specs.Query.{index_listed}
-use Rattle.mg_link.specs.Standing.{Stands}
-use Rattle.mg_link.specs.State.{Index}
+use Rattle.mg_server.specs.Query.{index_listed}
+use Rattle.mg_server.specs.Standing.{Stands}
+use Rattle.mg_server.specs.State.{Index}
 use Rattle.mg_link.specs.declared.error.BadArgument.TheVariants as argument
 use Rattle.mg_link.specs.declared.error.Error.{Error}
 use Rattle.mg_link.specs.declared.error.ErrorKind.{ErrorKind}
 use Rattle.mg_link.specs.declared.error.ErrorKind.TheVariants as kind
 use Rattle.mg_link.specs.declared.error.GridFsErrorKind.{None', Some'}
 use Rattle.mg_link.specs.declared.error.GridFsErrorKind.TheVariants as grid
-use Rattle.mg_link.proofs.Owners.{same_some}
-use Rattle.mg_link.proofs.Pasts.{heard_grows}
+use Rattle.mg_server.proofs.Owners.{same_some}
+use Rattle.mg_server.proofs.Pasts.{heard_grows}
 use Rattle.mg_options.specs.Fields.{fields_in}
 use Rattle.mg_records.specs.Readings.{Breaks, FailsToRead, recorded}
 use Rattle.mg_records.specs.Specifications.{index_of}

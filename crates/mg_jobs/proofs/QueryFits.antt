@@ -6,15 +6,15 @@ use Rattle.mg_bson.specs.Tree.{Tree, document, array, int32, int64, string, Fiel
 use Rattle.mg_bson.specs.Bytes.{fields_bytes, items_bytes, items_depth}
 use Rattle.mg_bson.specs.Find.{as_int32, get}
 use Rattle.mg_bson.specs.Literal.{◌⇒◌⨾◌, empty}
-use Rattle.mg_link.specs.Filter.{matches, meets}
-use Rattle.mg_link.specs.Files.{AreChunks, by_number, chunks_space, file_of, has_value, Bucket}
+use Rattle.mg_server.specs.Filter.{matches, meets}
+use Rattle.mg_server.specs.Files.{AreChunks, by_number, chunks_space, file_of, has_value, Bucket}
 use Rattle.mg_link.specs.Namespace.{Space, full_name}
-use Rattle.mg_link.specs.Query.{Key, can_sort, comes_first, have_order, order_by, result, sorted, sorted_in}
-use Rattle.mg_link.specs.Rules.{batch_of_query, bytes_of, cursor_fields, documents_of_items, max_batch, max_name, query_cursor}
-use Rattle.mg_link.specs.State.{State}
-use Rattle.mg_link.specs.Step.{documents_of}
-use Rattle.mg_link.proofs.Batched.{is_full}
-use Rattle.mg_link.proofs.Chunking.{AreBelow, below_sorted, chunks_below}
+use Rattle.mg_server.specs.Query.{Key, can_sort, comes_first, have_order, order_by, result, sorted, sorted_in}
+use Rattle.mg_server.specs.Rules.{batch_of_query, bytes_of, cursor_fields, documents_of_items, max_batch, max_name, query_cursor}
+use Rattle.mg_server.specs.State.{State}
+use Rattle.mg_server.specs.Step.{documents_of}
+use Rattle.mg_server.proofs.Batched.{is_full}
+use Rattle.mg_server.proofs.Chunking.{AreBelow, below_sorted, chunks_below}
 use Rattle.mg_gridfs.specs.Downloaded.{chunks_query, record_query}
 use Rattle.mg_players.proofs.GetListing.{those_same}
 use Rattle.mg_jobs.proofs.Sizes.{IsSmall, events_long, field_long, framed_long, id_long, name_long, ok_long}

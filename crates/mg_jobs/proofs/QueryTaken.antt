@@ -5,19 +5,19 @@ use Rattle.std.specs.Ordering.{int_eq}
 use Rattle.std.proofs.lemmas.Bool.Decides.{Decides-int_eq}
 use Rattle.mg_bson.specs.Tree.{Tree, Fields}
 use Rattle.mg_bson.specs.Raw.{fields}
-use Rattle.mg_link.specs.Commands.{Asked, Batch, Told, asked, asks_more, asks_query, batch_of, documents_in, gave, opened, told}
-use Rattle.mg_link.specs.History.{Step, step_after, told_at}
+use Rattle.mg_server.specs.Commands.{Asked, Batch, Told, asked, asks_more, asks_query, batch_of, documents_in, gave, opened, told}
+use Rattle.mg_server.specs.History.{Step, step_after, told_at}
 use Rattle.mg_link.specs.Namespace.{Space}
-use Rattle.mg_link.specs.Query.{Query, result, read, through}
-use Rattle.mg_link.specs.Rules.{Answer, Request, and_then, answer, answer_more, answer_of, answer_query, answer_with, bad_request, batch_of_query, default_batch, find, find_request, first_held, fitting, id_while, map_ok, more, named_space, no_such_collection, or_code, query_id, query_more_reply, query_reply, query_space, request_of}
-use Rattle.mg_link.specs.State.{Cursor, State, give, put_cursor, query}
-use Rattle.mg_link.specs.Step.{Made, effect, grown, moved, queried_at}
-use Rattle.mg_link.proofs.Collections.{is_space_self}
-use Rattle.mg_link.proofs.Cursoring.{other_int}
-use Rattle.mg_link.proofs.Later.{grown-cursors}
-use Rattle.mg_link.proofs.Owners.{same_some}
-use Rattle.mg_link.proofs.Requests.{asked_is, request_reads}
-use Rattle.mg_link.proofs.Telling.{found_tells, more_found_tells, told_reads}
+use Rattle.mg_server.specs.Query.{Query, result, read, through}
+use Rattle.mg_server.specs.Rules.{Answer, Request, and_then, answer, answer_more, answer_of, answer_query, answer_with, bad_request, batch_of_query, default_batch, find, find_request, first_held, fitting, id_while, map_ok, more, named_space, no_such_collection, or_code, query_id, query_more_reply, query_reply, query_space, request_of}
+use Rattle.mg_server.specs.State.{Cursor, State, give, put_cursor, query}
+use Rattle.mg_server.specs.Step.{Made, effect, grown, moved, queried_at}
+use Rattle.mg_server.proofs.Collections.{is_space_self}
+use Rattle.mg_server.proofs.Cursoring.{other_int}
+use Rattle.mg_server.proofs.Later.{grown-cursors}
+use Rattle.mg_server.proofs.Owners.{same_some}
+use Rattle.mg_server.proofs.Requests.{asked_is, request_reads}
+use Rattle.mg_server.proofs.Telling.{found_tells, more_found_tells, told_reads}
 use Rattle.mg_ops.specs.Bodies.{find_body}
 use Rattle.mg_ops.specs.Cursors.{Cursor as Told_cursor, cursor_of}
 use Rattle.mg_ops.specs.Plain.{plain_find}

@@ -5,17 +5,17 @@ use Rattle.std.proofs.lemmas.Bool.{cases_lt}
 use Rattle.std.proofs.lemmas.List.{take_all}
 use Rattle.mg_bson.specs.Raw.{fields}
 use Rattle.mg_bson.specs.Tree.{Fields}
-use Rattle.mg_link.specs.Commands.{Asked, asked}
-use Rattle.mg_link.specs.Files.{File, Spares, chunks_space, file_of, files_space, has_value}
-use Rattle.mg_link.specs.Filing.{Leaves}
-use Rattle.mg_link.specs.History.{IsLegal, Step, state_after, state_of, step_after, told_at}
+use Rattle.mg_server.specs.Commands.{Asked, asked}
+use Rattle.mg_server.specs.Files.{File, Spares, chunks_space, file_of, files_space, has_value}
+use Rattle.mg_server.specs.Filing.{Leaves}
+use Rattle.mg_server.specs.History.{IsLegal, Step, state_after, state_of, step_after, told_at}
 use Rattle.mg_link.specs.Log.{Call}
-use Rattle.mg_link.specs.Standing.{Stands}
-use Rattle.mg_link.specs.State.{State}
-use Rattle.mg_link.specs.Step.{May}
-use Rattle.mg_link.proofs.Chunking.{apart}
-use Rattle.mg_link.proofs.Files.{spared_stay}
-use Rattle.mg_link.proofs.Owners.{same_some}
+use Rattle.mg_server.specs.Standing.{Stands}
+use Rattle.mg_server.specs.State.{State}
+use Rattle.mg_server.specs.Step.{May}
+use Rattle.mg_server.proofs.Chunking.{apart}
+use Rattle.mg_server.proofs.Files.{spared_stay}
+use Rattle.mg_server.proofs.Owners.{same_some}
 use Rattle.mg_link.proofs.Places.{get_there}
 use Rattle.mg_options.specs.Fields.{fields_in}
 use Rattle.mg_ops.specs.Naming.{IsNamed}

@@ -3,18 +3,18 @@ use Rattle.std.proofs.Common.{◌≡◌, ◌⊎◌, ◌++◌, ◌∷◌, [], ℕ
 use Rattle.std.specs.Prelude.{codes, if◌then◌else◌, unwrap_or}
 use Rattle.std.proofs.lemmas.List.Elements.{filter-append}
 use Rattle.mg_bson.specs.Tree.{Fields, Tree}
-use Rattle.mg_link.specs.Commands.{Asked, Failure, Told, asked, asks_insert, deleted, done, garbled, gave, inserted, killed, opened, refuses, updated}
-use Rattle.mg_link.specs.Files.{Bucket, File, Spares, by_number, chunks_space, file_of, files_space, has_value, with_value}
-use Rattle.mg_link.specs.Filing.{part, whole_with}
-use Rattle.mg_link.specs.Filter.{meets}
-use Rattle.mg_link.specs.History.{Step, step_after, told_at}
+use Rattle.mg_server.specs.Commands.{Asked, Failure, Told, asked, asks_insert, deleted, done, garbled, gave, inserted, killed, opened, refuses, updated}
+use Rattle.mg_server.specs.Files.{Bucket, File, Spares, by_number, chunks_space, file_of, files_space, has_value, with_value}
+use Rattle.mg_server.specs.Filing.{part, whole_with}
+use Rattle.mg_server.specs.Filter.{meets}
+use Rattle.mg_server.specs.History.{Step, step_after, told_at}
 use Rattle.mg_link.specs.Namespace.{Space}
-use Rattle.mg_link.specs.Query.{sorted}
-use Rattle.mg_link.specs.State.{State}
-use Rattle.mg_link.specs.Step.{Made, May, MayTell, documents_of, effect, grown, is_listed, written}
-use Rattle.mg_link.proofs.Chunking.{apart_back}
-use Rattle.mg_link.proofs.Collections.{documents_here}
-use Rattle.mg_link.proofs.Files.{spared_stay}
+use Rattle.mg_server.specs.Query.{sorted}
+use Rattle.mg_server.specs.State.{State}
+use Rattle.mg_server.specs.Step.{Made, May, MayTell, documents_of, effect, grown, is_listed, written}
+use Rattle.mg_server.proofs.Chunking.{apart_back}
+use Rattle.mg_server.proofs.Collections.{documents_here}
+use Rattle.mg_server.proofs.Files.{spared_stay}
 use Rattle.mg_players.specs.Behind.{WritesFirst}
 
 -- what an insert of documents that listed these failures leaves of a collection

@@ -6,23 +6,23 @@ use Rattle.std.proofs.lemmas.List.Elements.{Contains-append_cases, Contains-push
 use Rattle.std.proofs.lemmas.Option.{slice_get_within}
 use Rattle.mg_bson.specs.Raw.{fields}
 use Rattle.mg_bson.specs.Tree.{Fields, Tree}
-use Rattle.mg_link.specs.Commands.{Asked, Failure, asked, asks_insert, inserted, told}
-use Rattle.mg_link.specs.History.{IsLegal, Step, state_of, told_at}
-use Rattle.mg_link.specs.Kept.{IsByRules as AreByRules, Kept, given_after, given_of, state_behind, state_of_kept, step_of, steps_from, steps_of}
+use Rattle.mg_server.specs.Commands.{Asked, Failure, asked, asks_insert, inserted, told}
+use Rattle.mg_server.specs.History.{IsLegal, Step, state_of, told_at}
+use Rattle.mg_server.specs.Kept.{IsByRules as AreByRules, Kept, given_after, given_of, state_behind, state_of_kept, step_of, steps_from, steps_of}
 use Rattle.mg_link.specs.Link.{Awaited}
 use Rattle.mg_link.specs.Log.{Call}
 use Rattle.mg_link.specs.Namespace.{Space, Target, target}
-use Rattle.mg_link.specs.Owner.{IsOf}
-use Rattle.mg_link.specs.Prompt.{HoldsBackNone, IsRefused}
-use Rattle.mg_link.specs.Rules.{Answer as Reply, answer_of, inserted_reply, inserting}
-use Rattle.mg_link.specs.Standing.{Stands}
-use Rattle.mg_link.specs.State.{State, nothing}
-use Rattle.mg_link.specs.Step.{documents_of}
+use Rattle.mg_server.specs.Owner.{IsOf}
+use Rattle.mg_server.specs.Prompt.{HoldsBackNone, IsRefused}
+use Rattle.mg_server.specs.Rules.{Answer as Reply, answer_of, inserted_reply, inserting}
+use Rattle.mg_server.specs.Standing.{Stands}
+use Rattle.mg_server.specs.State.{State, nothing}
+use Rattle.mg_server.specs.Step.{documents_of}
 use Rattle.mg_link.specs.declared.error.Error.{Error}
 use Rattle.mg_link.specs.declared.error.ErrorKind.TheVariants as kind
-use Rattle.mg_link.proofs.Inserting.{failing, inserting_is}
+use Rattle.mg_server.proofs.Inserting.{failing, inserting_is}
 use Rattle.mg_link.proofs.Places.{get_front, get_some}
-use Rattle.mg_link.proofs.Telling.{insert_tells, told_reads}
+use Rattle.mg_server.proofs.Telling.{insert_tells, told_reads}
 use Rattle.mg_options.specs.Fields.{Line, fields_in}
 use Rattle.mg_options.specs.declared.change_stream.ChangeStreamOptions.{ChangeStreamOptions}
 use Rattle.mg_ops.specs.Aims.{Aim, aim_of, asked_for}

@@ -6,12 +6,11 @@ use Rattle.std.proofs.lemmas.Bool.{cases_Bool, le-leb, lt-ltb}
 use Rattle.mg_bson.specs.Tree.{Tree, string, document, array, boolean, int32, int64, Fields, Items, no_items, item}
 use Rattle.mg_bson.specs.Bytes.{bytes, fields_bytes, items_bytes, levels, le32, le64, value_bytes}
 use Rattle.mg_bson.specs.Literal.{◌⇒◌⨾◌, empty}
-use Rattle.mg_link.specs.Commands.{as_collection, as_database, documents_in}
-use Rattle.mg_link.specs.Filter.{has_dot}
-use Rattle.mg_link.specs.Namespace.{Space}
-use Rattle.mg_link.specs.Rules.{Answer, Inserted, Request, accept, and_then, bad_request, errors_field, refused, answer, answer_insert, answer_of, as_name, choose, fitting, insert, insert_entry, insert_request, inserting, max_name, max_reply, named_space, no_more, request_of, with_document, with_error, without_dot, write_error}
-use Rattle.mg_link.specs.State.{State}
-use Rattle.mg_link.specs.Step.{documents_of}
+use Rattle.mg_link.specs.Namespace.{as_collection, as_database, has_dot, Space}
+use Rattle.mg_server.specs.Commands.{documents_in}
+use Rattle.mg_server.specs.Rules.{Answer, Inserted, Request, accept, and_then, bad_request, errors_field, refused, answer, answer_insert, answer_of, as_name, choose, fitting, insert, insert_entry, insert_request, inserting, max_name, max_reply, named_space, no_more, request_of, with_document, with_error, without_dot, write_error}
+use Rattle.mg_server.specs.State.{State}
+use Rattle.mg_server.specs.Step.{documents_of}
 use Rattle.mg_options.specs.Printing.{listed}
 use Rattle.mg_ops.specs.Bodies.{insert_command}
 use Rattle.mg_ops.proofs.Asking.{documents_listed}

@@ -4,7 +4,7 @@ use Rattle.std.specs.Prelude.{◌&&◌, if◌then◌else◌, int_lt, is_some, no
 use Rattle.mg_bson.specs.Tree.{Tree}
 use Rattle.mg_bson.specs.declared.tree.Timestamp.{Timestamp}
 use Rattle.mg_link.specs.Namespace.{Target}
-use Rattle.mg_link.specs.State as state
+use Rattle.mg_server.specs.State as state
 use Rattle.mg_options.specs.declared.change_stream.ChangeStreamOptions.{ChangeStreamOptions}
 use Rattle.mg_change.specs.ClientStreams.{SavedFor}
 use Rattle.mg_ops.specs.Resuming.{options_for, or_time, resume_at, resume_behind, resume_by, times_from}

@@ -5,12 +5,12 @@ use Rattle.std.specs.List.{concat, sum_by}
 use Rattle.std.proofs.lemmas.Bool.{cases_eq}
 use Rattle.mg_bson.specs.Raw.{fields}
 use Rattle.mg_bson.specs.Tree.{Fields, Tree}
-use Rattle.mg_link.specs.History.{IsLegal, Step}
+use Rattle.mg_server.specs.History.{IsLegal, Step}
 use Rattle.mg_link.specs.Link.{Awaited}
 use Rattle.mg_link.specs.Log.{Call}
 use Rattle.mg_link.specs.Namespace.{Target}
-use Rattle.mg_link.specs.Owner.{IsOf}
-use Rattle.mg_link.specs.Standing.{Stands}
+use Rattle.mg_server.specs.Owner.{IsOf}
+use Rattle.mg_server.specs.Standing.{Stands}
 use Rattle.mg_link.proofs.Places.{get_some, get_within}
 use Rattle.mg_store.proofs.Standing.{same_some}
 use Rattle.mg_options.specs.Fields.{Line, fields_in}

@@ -5,15 +5,15 @@ use Rattle.std.specs.List.{concat, sum_by}
 use Rattle.std.proofs.lemmas.Option.{slice_get_within}
 use Rattle.mg_bson.specs.Raw.{fields}
 use Rattle.mg_bson.specs.Tree.{Fields}
-use Rattle.mg_link.specs.Calls.{Past}
-use Rattle.mg_link.specs.History.{IsLegal, Step}
-use Rattle.mg_link.specs.Kept.{IsByRules as AreByRules, Kept, steps_of}
+use Rattle.mg_server.specs.Calls.{Past}
+use Rattle.mg_server.specs.History.{IsLegal, Step}
+use Rattle.mg_server.specs.Kept.{IsByRules as AreByRules, Kept, steps_of}
 use Rattle.mg_link.specs.Link.{Awaited}
 use Rattle.mg_link.specs.Log.{Call}
 use Rattle.mg_link.specs.Namespace.{Space}
-use Rattle.mg_link.specs.Owner.{NamesItsOwn}
-use Rattle.mg_link.specs.Prompt.{HoldsBackNone}
-use Rattle.mg_link.specs.Standing.{Stands}
+use Rattle.mg_server.specs.Owner.{NamesItsOwn}
+use Rattle.mg_server.specs.Prompt.{HoldsBackNone}
+use Rattle.mg_server.specs.Standing.{Stands}
 use Rattle.mg_link.proofs.Places.{get_some}
 use Rattle.mg_store.specs.InMemory.{AreAsFates, AreKept}
 use Rattle.mg_store.specs.declared.fate.Fate.{Fate}

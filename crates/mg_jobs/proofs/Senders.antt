@@ -7,12 +7,13 @@ use Rattle.std.proofs.lemmas.List.Sums.{sum_by-append, sum_by-cons}
 use Rattle.std.proofs.Math.Seq.{take-append_seam}
 use Rattle.mg_bson.specs.Tree.{Fields}
 use Rattle.mg_bson.specs.Find.{get}
-use Rattle.mg_link.specs.Commands.{Asked, asks_more, asks_other, as_integer, more_of, space_at}
-use Rattle.mg_link.specs.History.{Step, state_of}
-use Rattle.mg_link.specs.Kept.{Kept, given_from, started_from, state_of_kept, steps_from, steps_of}
+use Rattle.mg_link.specs.Numbers.{as_integer}
+use Rattle.mg_server.specs.Commands.{Asked, asks_more, asks_other, more_of, space_at}
+use Rattle.mg_server.specs.History.{Step, state_of}
+use Rattle.mg_server.specs.Kept.{Kept, given_from, started_from, state_of_kept, steps_from, steps_of}
 use Rattle.mg_link.specs.Namespace.{Space}
-use Rattle.mg_link.specs.State.{nothing}
-use Rattle.mg_link.proofs.Legal.{steps_from-append}
+use Rattle.mg_server.specs.State.{nothing}
+use Rattle.mg_server.proofs.Legal.{steps_from-append}
 use Rattle.mg_ops.specs.Cursors.{Manner, next_command}
 use Rattle.mg_script.specs.Script.{first_missing}
 use Rattle.mg_store.proofs.Sending.{length-steps}

@@ -2,7 +2,7 @@
 use Rattle.std.proofs.Common.{◌≡◌, ◌⊎◌, ℕ, ℤ, List, true, false, Option, Some, None, refl, sym, ap, ◌∙◌, subst, inl, inr}
 use Rattle.std.specs.Prelude.{is_some, IsSome}
 use Rattle.mg_link.specs.Acts.{Tickets}
-use Rattle.mg_link.specs.Calls.{Keeps}
+use Rattle.mg_server.specs.Calls.{Keeps}
 use Rattle.mg_link.specs.Link.{Awaited, LogTold}
 use Rattle.mg_link.specs.Log.{Call}
 use Rattle.mg_players.specs.Counts.{OthersStay, is_held, shown}
@@ -15,8 +15,8 @@ use Rattle.mg_players.specs.Runs.{Goes}
 use Rattle.mg_players.specs.Telling.{TurnTells}
 use Rattle.mg_script.specs.Plan.{Task}
 use Rattle.mg_players.specs.declared.player.Player.{Player}
-use Rattle.mg_link.specs.Owner.{nobody}
-use Rattle.mg_link.proofs.Apart.{onward_refl}
+use Rattle.mg_server.specs.Owner.{nobody}
+use Rattle.mg_server.proofs.Apart.{onward_refl}
 use Rattle.mg_players.proofs.JobTelling.{job_later}
 use Rattle.mg_players.proofs.Knowing.{same_player}
 use Rattle.mg_players.proofs.OwnTickets.{cases_held, held_is, is_held_so, none_is_not, shown_held, shown_new, shown_out, shown_own}

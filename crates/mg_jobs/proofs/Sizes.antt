@@ -11,8 +11,8 @@ use Rattle.mg_bson.specs.Bytes.{bytes, fields_bytes, fields_depth, framed, items
 use Rattle.mg_bson.specs.Find.{get}
 use Rattle.mg_bson.specs.Literal.{◌⇒◌⨾◌, empty, word}
 use Rattle.mg_link.specs.Namespace.{Space, full_name}
-use Rattle.mg_link.specs.Query.{id_alone}
-use Rattle.mg_link.specs.Rules.{bytes_of, cursor_fields, deleted_event, documents_of_items, first_batch, insert_event, max_batch, max_document, max_given_levels, max_name, max_reply, max_stored_levels, next_batch, stamp_of, token_fields, token_of}
+use Rattle.mg_server.specs.Query.{id_alone}
+use Rattle.mg_server.specs.Rules.{bytes_of, cursor_fields, deleted_event, documents_of_items, first_batch, insert_event, max_batch, max_document, max_given_levels, max_name, max_reply, max_stored_levels, next_batch, stamp_of, token_fields, token_of}
 
 -- ---- lengths
 

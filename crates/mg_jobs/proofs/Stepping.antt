@@ -1,7 +1,7 @@
 -- A link that alone uses its store goes on doing so.
 use Rattle.std.proofs.Common.{◌≡◌, ◌⊎◌, ℕ, zero, suc, ◌<◌, List, [], ◌∷◌, ◌++◌, length, Option, Some, None, Ok, Err, Result, refl, sym, ap, ◌∙◌, subst, inl, inr, arith, length-append}
 use Rattle.std.specs.Prelude.{slice_get}
-use Rattle.mg_link.specs.Kept.{Kept}
+use Rattle.mg_server.specs.Kept.{Kept}
 use Rattle.mg_link.specs.Link.{Awaited, PollMeans}
 use Rattle.mg_link.specs.Log.{Sight, Call, see}
 use Rattle.mg_link.specs.declared.link.LinkError.{LinkError}

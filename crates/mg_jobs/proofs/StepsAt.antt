@@ -2,14 +2,14 @@
 use Rattle.std.proofs.Common.{◌≡◌, ◌≤◌, ◌<◌, ◌+◌, ℕ, zero, suc, ℤ, true, false, List, [], ◌∷◌, length, take, Some, sym, ap, ◌∙◌, subst, inl, inr, arith}
 use Rattle.std.specs.Prelude.{slice_get}
 use Rattle.std.proofs.lemmas.Bool.{cases_lt}
-use Rattle.mg_link.specs.Commands.{asked}
-use Rattle.mg_link.specs.History.{IsLegal, Step, state_after, state_of, step_after, told_at}
+use Rattle.mg_server.specs.Commands.{asked}
+use Rattle.mg_server.specs.History.{IsLegal, Step, state_after, state_of, step_after, told_at}
 use Rattle.mg_link.specs.Log.{Call}
-use Rattle.mg_link.specs.Standing.{OpensId, Stands}
-use Rattle.mg_link.specs.State.{State, nothing}
-use Rattle.mg_link.specs.Step.{May}
-use Rattle.mg_link.proofs.Histories.{state_after-append}
-use Rattle.mg_link.proofs.Later.{Later, later_refl, later_step, later_trans, opens_given, opens_new, respects_of}
+use Rattle.mg_server.specs.Standing.{OpensId, Stands}
+use Rattle.mg_server.specs.State.{State, nothing}
+use Rattle.mg_server.specs.Step.{May}
+use Rattle.mg_server.proofs.Histories.{state_after-append}
+use Rattle.mg_server.proofs.Later.{Later, later_refl, later_step, later_trans, opens_given, opens_new, respects_of}
 use Rattle.mg_link.proofs.Places.{get_some, get_within, take_more}
 use Rattle.mg_players.proofs.Prompting.{lawful_at}
 

@@ -2,15 +2,15 @@
 use Rattle.std.proofs.Common.{◌≡◌, ◌≢◌, ◌≤◌, ◌<◌, ◌+◌, ◌++◌, ℕ, zero, suc, ℤ, pos, true, List, [], ◌∷◌, length, take, Contains, Option, Some, refl, sym, ap, ◌∙◌, subst, arith}
 use Rattle.std.specs.Prelude.{option_map, slice_get, slice_index_or}
 use Rattle.mg_bson.specs.Raw.{fields}
-use Rattle.mg_link.specs.Commands.{asked, asks_watch}
-use Rattle.mg_link.specs.History.{IsLegal, Step, state_of, step_after, told_at}
-use Rattle.mg_link.specs.Kept.{AreStoreEntries, IsByRules as AreByRules, Kept, given_of, state_of_kept, steps_of}
+use Rattle.mg_server.specs.Commands.{asked, asks_watch}
+use Rattle.mg_server.specs.History.{IsLegal, Step, state_of, step_after, told_at}
+use Rattle.mg_server.specs.Kept.{AreStoreEntries, IsByRules as AreByRules, Kept, given_of, state_of_kept, steps_of}
 use Rattle.mg_link.specs.Log.{Call, fault}
-use Rattle.mg_link.specs.Prompt.{AnswersAtOnce, HoldsBackNone, IsRefused}
-use Rattle.mg_link.specs.Rules.{answer_of}
-use Rattle.mg_link.specs.Standing.{OpensId, Stands}
-use Rattle.mg_link.specs.State.{Entry, Start, State, Watch}
-use Rattle.mg_link.proofs.Later.{opens_given}
+use Rattle.mg_server.specs.Prompt.{AnswersAtOnce, HoldsBackNone, IsRefused}
+use Rattle.mg_server.specs.Rules.{answer_of}
+use Rattle.mg_server.specs.Standing.{OpensId, Stands}
+use Rattle.mg_server.specs.State.{Entry, Start, State, Watch}
+use Rattle.mg_server.proofs.Later.{opens_given}
 use Rattle.mg_link.proofs.Places.{get_some, get_within}
 use Rattle.mg_store.specs.InMemory.{AreAsFates, AreKept, SeesWhatComes, coming, reply_at}
 use Rattle.mg_store.specs.declared.fate.Fate.{Fate}

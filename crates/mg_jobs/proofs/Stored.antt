@@ -8,18 +8,18 @@ use Rattle.mg_bson.specs.Tree.{Tree, Fields}
 use Rattle.mg_bson.specs.Bytes.{bytes, levels}
 use Rattle.mg_bson.specs.Find.{get}
 use Rattle.mg_bson.specs.Raw.{fields}
-use Rattle.mg_link.specs.Commands.{Asked, Failure, Told, asked, asks_create, asks_delete, asks_drop, asks_indexes, asks_insert, asks_kill, asks_more, asks_query, asks_update, asks_watch, deleted, done, gave, inserted, killed, opened, refuses, told}
-use Rattle.mg_link.specs.Filter.{Condition, matches}
-use Rattle.mg_link.specs.Kept.{Follows, Kept, by_choice, by_rules, made_of, state_behind}
+use Rattle.mg_server.specs.Commands.{Asked, Failure, Told, asked, asks_create, asks_delete, asks_drop, asks_indexes, asks_insert, asks_kill, asks_more, asks_query, asks_update, asks_watch, deleted, done, gave, inserted, killed, opened, refuses, told}
+use Rattle.mg_server.specs.Filter.{Condition, matches}
+use Rattle.mg_server.specs.Kept.{Follows, Kept, by_choice, by_rules, made_of, state_behind}
 use Rattle.mg_link.specs.Namespace.{Space}
-use Rattle.mg_link.specs.Rules.{Answer, Inserted, Request, accept, answer, answer_insert, answer_of, bad_request, choose, create_collection, create_indexes, delete, drop_collection, duplicate_id, find, has_id, id_or_code, insert, insert_entry, inserted_reply, inserting, is_storable, kill, max_document, max_stored_levels, more, no_more, refusal, update, watch, with_document, with_error}
-use Rattle.mg_link.specs.State.{Collection, Cursor, State, change_documents, collection_in, comes_before, indexes_of, is_space, put_collection}
-use Rattle.mg_link.specs.Step.{Made, documents_of, effect, ends_cursor, grown, written}
-use Rattle.mg_link.specs.Write.{after_delete, chosen, with_indexes}
-use Rattle.mg_link.proofs.Allowed.{Rule, answers_by, refuses_by, rule_is}
-use Rattle.mg_link.proofs.Inserting.{failing, inserting_is}
-use Rattle.mg_link.proofs.Requests.{asked_is, asks_of}
-use Rattle.mg_link.proofs.Telling.{insert_tells, refusal_tells, told_reads}
+use Rattle.mg_server.specs.Rules.{Answer, Inserted, Request, accept, answer, answer_insert, answer_of, bad_request, choose, create_collection, create_indexes, delete, drop_collection, duplicate_id, find, has_id, id_or_code, insert, insert_entry, inserted_reply, inserting, is_storable, kill, max_document, max_stored_levels, more, no_more, refusal, update, watch, with_document, with_error}
+use Rattle.mg_server.specs.State.{Collection, Cursor, State, change_documents, collection_in, comes_before, indexes_of, is_space, put_collection}
+use Rattle.mg_server.specs.Step.{Made, documents_of, effect, ends_cursor, grown, written}
+use Rattle.mg_server.specs.Write.{after_delete, chosen, with_indexes}
+use Rattle.mg_server.proofs.Allowed.{Rule, answers_by, refuses_by, rule_is}
+use Rattle.mg_server.proofs.Inserting.{failing, inserting_is}
+use Rattle.mg_server.proofs.Requests.{asked_is, asks_of}
+use Rattle.mg_server.proofs.Telling.{insert_tells, refusal_tells, told_reads}
 use Rattle.mg_jobs.proofs.Mild.{IsMild, IsMildCommand}
 
 -- ---- documents

@@ -2,9 +2,9 @@
 use Rattle.std.proofs.Common.{◌≡◌, ◌+◌, ◌<◌, ◌≤◌, ◌^◌, ◌++◌, ◌∷◌, [], List, length, ℕ, zero, suc, min, ◌-◌, Bool, true, false, Option, Result, Ok, Err, IfOk, arith, refl, sym, ap, ◌∙◌, subst, inl, inr, length-append}
 use Rattle.std.specs.List.{sum_by}
 use Rattle.std.proofs.lemmas.List.Sums.{sum_by-append}
-use Rattle.mg_link.specs.Calls.{Stays}
+use Rattle.mg_server.specs.Calls.{Stays}
 use Rattle.mg_link.specs.declared.error.Error.{Error}
-use Rattle.mg_link.proofs.Staying.{stays_adds, stays_on, stays_sees}
+use Rattle.mg_server.proofs.Staying.{stays_adds, stays_on, stays_sees}
 use Rattle.mg_script.specs.declared.outcome.Played.{Played}
 use Rattle.mg_script.specs.declared.outcome.Turned.{Turned}
 use Rattle.mg_link.specs.Link.{Adds, Sees, LogTold}

@@ -6,19 +6,19 @@ use Rattle.std.proofs.lemmas.Bool.{cases_Bool}
 use Rattle.mg_bson.specs.Tree.{Fields}
 use Rattle.mg_bson.specs.Find.{get}
 use Rattle.mg_bson.specs.Raw.{fields}
-use Rattle.mg_link.specs.Commands.{Told, deleted, done, garbled, gave, inserted, killed, opened, refuses, updated}
-use Rattle.mg_link.specs.History.{state_after}
-use Rattle.mg_link.specs.Kept.{AreStoreEntries, Kept, given_after, made_by, made_of, rule_entries, state_behind, state_of_kept, step_of, steps_from, told_kept}
+use Rattle.mg_server.specs.Commands.{Told, deleted, done, garbled, gave, inserted, killed, opened, refuses, updated}
+use Rattle.mg_server.specs.History.{state_after}
+use Rattle.mg_server.specs.Kept.{AreStoreEntries, Kept, given_after, made_by, made_of, rule_entries, state_behind, state_of_kept, step_of, steps_from, told_kept}
 use Rattle.mg_link.specs.Namespace.{Space}
-use Rattle.mg_link.specs.Rules.{Answer, Request, answer, answer_insert, answer_more, answer_of, answer_with, bad_request, create_collection, create_indexes, delete, deleted_entries, deleted_reply, done_reply, drop_collection, events_may_be_given, find, insert, is_watch_of, kill, killed_reply, may_stay, more, more_reply, place_at, query_more_reply, query_reply, size_of, token_of, update, watch, watch_reply}
-use Rattle.mg_link.specs.State.{Cursor, Entry, Index, State, Watch, between, collection_in, events_between, indexes_of, is_space, nothing, query, sees, watching}
-use Rattle.mg_link.specs.Query.{index_listed}
-use Rattle.mg_link.specs.Write.{chosen, with_indexes}
-use Rattle.mg_link.specs.Step.{documents_of}
-use Rattle.mg_link.proofs.Allowed.{Rule, answered_if, answers_by, create_ok, found_by, map_some, refuses_by, rule_is}
-use Rattle.mg_link.proofs.Changing.{deleted_are}
-use Rattle.mg_link.proofs.Histories.{step_after-changes}
-use Rattle.mg_link.proofs.Inserting.{inserting_is}
+use Rattle.mg_server.specs.Rules.{Answer, Request, answer, answer_insert, answer_more, answer_of, answer_with, bad_request, create_collection, create_indexes, delete, deleted_entries, deleted_reply, done_reply, drop_collection, events_may_be_given, find, insert, is_watch_of, kill, killed_reply, may_stay, more, more_reply, place_at, query_more_reply, query_reply, size_of, token_of, update, watch, watch_reply}
+use Rattle.mg_server.specs.State.{Cursor, Entry, Index, State, Watch, between, collection_in, events_between, indexes_of, is_space, nothing, query, sees, watching}
+use Rattle.mg_server.specs.Query.{index_listed}
+use Rattle.mg_server.specs.Write.{chosen, with_indexes}
+use Rattle.mg_server.specs.Step.{documents_of}
+use Rattle.mg_server.proofs.Allowed.{Rule, answered_if, answers_by, create_ok, found_by, map_some, refuses_by, rule_is}
+use Rattle.mg_server.proofs.Changing.{deleted_are}
+use Rattle.mg_server.proofs.Histories.{step_after-changes}
+use Rattle.mg_server.proofs.Inserting.{inserting_is}
 use Rattle.mg_jobs.proofs.Mild.{IsMild, IsMildCommand}
 
 -- ---- entries

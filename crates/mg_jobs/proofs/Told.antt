@@ -6,12 +6,12 @@ use Rattle.std.proofs.lemmas.List.{take_all}
 use Rattle.std.proofs.lemmas.List.Sums.{sum_by-append}
 use Rattle.mg_bson.specs.Tree.{Fields, Tree}
 use Rattle.mg_bson.specs.Raw.{fields}
-use Rattle.mg_link.specs.Calls.{Keeps, Past, Stays}
+use Rattle.mg_server.specs.Calls.{Keeps, Past, Stays}
 use Rattle.mg_link.specs.Link.{Awaited, LogTold}
 use Rattle.mg_link.specs.Log.{Call}
 use Rattle.mg_link.specs.Namespace.{Space, Target, space, target}
-use Rattle.mg_link.specs.Owner.{NamesItsOwn, Owner, Onward, nobody}
-use Rattle.mg_link.specs.State.{Start, Watch}
+use Rattle.mg_server.specs.Owner.{NamesItsOwn, Owner, Onward, nobody}
+use Rattle.mg_server.specs.State.{Start, Watch}
 use Rattle.mg_link.specs.declared.error.Error.{Error}
 use Rattle.mg_link.proofs.Places.{get_within}
 use Rattle.mg_ops.specs.declared.aggregate.ChangeStreamAggregate.{ChangeStreamAggregate}
@@ -77,7 +77,7 @@ use Rattle.mg_players.proofs.Sends.{sends_first, sends_other, sends_turn, sent_h
 use Rattle.mg_players.proofs.Turning.{failed_not_unfinished, follow_followed, unfinished_not_given}
 use Rattle.mg_players.proofs.Whole.{only_now, only_opened, places_other, places_own}
 use Rattle.mg_players.proofs.Vainly.{nothing_at, outcome_vain}
-use Rattle.mg_link.proofs.Watched.{IsWatched}
+use Rattle.mg_server.proofs.Watched.{IsWatched}
 
 -- ---- one turn more
 

@@ -4,14 +4,14 @@ use Rattle.std.specs.Prelude.{unwrap_or}
 use Rattle.mg_bson.specs.Raw.{fields}
 use Rattle.mg_bson.specs.Reading.{doc}
 use Rattle.mg_bson.specs.Tree.{Fields, no_fields}
-use Rattle.mg_link.specs.Calls.{HeardBy, Past, RequestFails, out_of_memory, was_broken, was_lost, was_refused}
+use Rattle.mg_server.specs.Calls.{HeardBy, Past, RequestFails, out_of_memory, was_broken, was_lost, was_refused}
 use Rattle.mg_link.specs.Errors.{plain}
 use Rattle.mg_link.specs.Exec.{FailsAs, FailsByReply, IsSuccess}
 use Rattle.mg_link.specs.Failures.{refusal_by}
-use Rattle.mg_link.specs.History.{IsLegal, Step}
+use Rattle.mg_server.specs.History.{IsLegal, Step}
 use Rattle.mg_link.specs.Log.{reply}
 use Rattle.mg_link.specs.Reply.{Refusal, refusal_of, verdict_of}
-use Rattle.mg_link.specs.Standing.{Stands}
+use Rattle.mg_server.specs.Standing.{Stands}
 use Rattle.mg_link.specs.declared.error.BadArgument.{BadArgument}
 use Rattle.mg_link.specs.declared.error.BadArgument.TheVariants as argument
 use Rattle.mg_link.specs.declared.error.Error.{Error}
@@ -19,7 +19,7 @@ use Rattle.mg_link.specs.declared.error.ErrorKind.{ErrorKind}
 use Rattle.mg_link.specs.declared.error.ErrorKind.TheVariants as kind
 use Rattle.mg_link.specs.declared.reply.Verdict.{Verdict}
 use Rattle.mg_link.specs.declared.reply.Verdict.TheVariants as verdict
-use Rattle.mg_link.proofs.Pasts.{heard_by}
+use Rattle.mg_server.proofs.Pasts.{heard_by}
 use Rattle.mg_options.specs.Fields.{Line, Refuses, first_unfit}
 use Rattle.mg_ops.specs.Failing.{CannotBeInserted, CannotBeSent, CannotInsert, HasBadSize}
 use Rattle.mg_gridfs.specs.Commands.{CannotSend, CannotStore}

@@ -9,20 +9,20 @@ use Rattle.std.proofs.lemmas.Bool.Decides.{Decides-int_eq}
 use Rattle.mg_bson.specs.Tree.{Tree, Fields, field, no_fields}
 use Rattle.mg_bson.specs.Bytes.{bytes, levels}
 use Rattle.mg_bson.specs.Raw.{fields}
-use Rattle.mg_link.specs.Commands.{Asked, Told, asked, asks_create, asks_delete, asks_drop, asks_indexes, asks_insert, asks_kill, asks_more, asks_other, asks_query, asks_update, asks_watch, deleted, done, garbled, gave, inserted, killed, opened, refuses, told, updated}
-use Rattle.mg_link.specs.History.{Step, step_after, told_at}
+use Rattle.mg_server.specs.Commands.{Asked, Told, asked, asks_create, asks_delete, asks_drop, asks_indexes, asks_insert, asks_kill, asks_more, asks_other, asks_query, asks_update, asks_watch, deleted, done, garbled, gave, inserted, killed, opened, refuses, told, updated}
+use Rattle.mg_server.specs.History.{Step, step_after, told_at}
 use Rattle.mg_link.specs.Namespace.{Space}
-use Rattle.mg_link.specs.Prompt.{AnswersAtOnce, EndsByInvalidate, IsRefused}
-use Rattle.mg_link.specs.Rules.{Answer, Request, aggregate_request, and_then, answer, answer_more, answer_of, answer_with, bad_request, create_collection, create_indexes, create_request, delete, delete_request, drop_collection, drop_request, find, find_request, fitting, indexes_request, insert, insert_request, is_watch_of, kill, kill_request, list_collections_request, list_indexes_request, max_reply, more, more_reply, more_request, or_code, refusal, refused, request_of, size_of, token_of, unknown_command, update, update_request, watch, batch_events, batch_id, batch_place}
-use Rattle.mg_link.specs.Standing.{Names, OpensId}
-use Rattle.mg_link.specs.State.{Cursor, Entry, Start, State, Watch, between, give, is_invalidate, put_cursor, query, seen_between, sees, watching}
-use Rattle.mg_link.specs.Step.{IsNamed, May, MayTell, effect, ends_cursor, grown, moved, watching_at}
-use Rattle.mg_link.proofs.Cursoring.{other_int, same_int}
-use Rattle.mg_link.proofs.Histories.{effect-changes, step_after-changes}
-use Rattle.mg_link.proofs.Later.{grown-cursors, leaves_step}
-use Rattle.mg_link.proofs.Owners.{same_some}
-use Rattle.mg_link.proofs.Requests.{asked_is, asks_of, request_reads}
-use Rattle.mg_link.proofs.Telling.{gave_tells, refusal_tells, told_reads}
+use Rattle.mg_server.specs.Prompt.{AnswersAtOnce, EndsByInvalidate, IsRefused}
+use Rattle.mg_server.specs.Rules.{Answer, Request, aggregate_request, and_then, answer, answer_more, answer_of, answer_with, bad_request, create_collection, create_indexes, create_request, delete, delete_request, drop_collection, drop_request, find, find_request, fitting, indexes_request, insert, insert_request, is_watch_of, kill, kill_request, list_collections_request, list_indexes_request, max_reply, more, more_reply, more_request, or_code, refusal, refused, request_of, size_of, token_of, unknown_command, update, update_request, watch, batch_events, batch_id, batch_place}
+use Rattle.mg_server.specs.Standing.{Names, OpensId}
+use Rattle.mg_server.specs.State.{Cursor, Entry, Start, State, Watch, between, give, is_invalidate, put_cursor, query, seen_between, sees, watching}
+use Rattle.mg_server.specs.Step.{IsNamed, May, MayTell, effect, ends_cursor, grown, moved, watching_at}
+use Rattle.mg_server.proofs.Cursoring.{other_int, same_int}
+use Rattle.mg_server.proofs.Histories.{effect-changes, step_after-changes}
+use Rattle.mg_server.proofs.Later.{grown-cursors, leaves_step}
+use Rattle.mg_server.proofs.Owners.{same_some}
+use Rattle.mg_server.proofs.Requests.{asked_is, asks_of, request_reads}
+use Rattle.mg_server.proofs.Telling.{gave_tells, refusal_tells, told_reads}
 use Rattle.mg_jobs.proofs.Added.{AreModestEntries}
 
 -- the cursor is one of this watch, at a place that is there

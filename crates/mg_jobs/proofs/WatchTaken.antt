@@ -6,15 +6,15 @@ use Rattle.mg_bson.specs.Tree.{Fields, Items, int32, int64, array, no_items, ite
 use Rattle.mg_bson.specs.Bytes.{fields_bytes, items_bytes, le32, le64, levels, value_bytes}
 use Rattle.mg_bson.specs.Literal.{◌⇒◌⨾◌, empty}
 use Rattle.mg_bson.specs.Raw.{fields}
-use Rattle.mg_link.specs.Commands.{Asked, asked, asks_kill, asks_more, gave, killed, told}
+use Rattle.mg_server.specs.Commands.{Asked, asked, asks_kill, asks_more, gave, killed, told}
 use Rattle.mg_link.specs.Namespace.{Space, Target, database, collection, cluster}
-use Rattle.mg_link.specs.Prompt.{IsRefused}
-use Rattle.mg_link.specs.Rules.{Answer, Request, and_then, answer, answer_of, answer_with, as_name, bad_request, batch_events, batch_id, batch_place, fitting, is_killed, is_watch_of, kill, kill_request, killed_reply, more, more_reply, more_request, named_space, request_of, same_answer, size_of, some_size, token_of, watch_space, without_dot}
-use Rattle.mg_link.specs.State.{State, Watch}
-use Rattle.mg_link.proofs.Collections.{is_space_self}
-use Rattle.mg_link.proofs.Filling.{is_full_batch}
-use Rattle.mg_link.proofs.Requests.{asked_is, request_reads}
-use Rattle.mg_link.proofs.Telling.{gave_tells, killed_tells, told_reads}
+use Rattle.mg_server.specs.Prompt.{IsRefused}
+use Rattle.mg_server.specs.Rules.{Answer, Request, and_then, answer, answer_of, answer_with, as_name, bad_request, batch_events, batch_id, batch_place, fitting, is_killed, is_watch_of, kill, kill_request, killed_reply, more, more_reply, more_request, named_space, request_of, same_answer, size_of, some_size, token_of, watch_space, without_dot}
+use Rattle.mg_server.specs.State.{State, Watch}
+use Rattle.mg_server.proofs.Collections.{is_space_self}
+use Rattle.mg_server.proofs.Filling.{is_full_batch}
+use Rattle.mg_server.proofs.Requests.{asked_is, request_reads}
+use Rattle.mg_server.proofs.Telling.{gave_tells, killed_tells, told_reads}
 use Rattle.mg_ops.specs.Commands.{kill_command}
 use Rattle.mg_ops.specs.Cursors.{Manner, next_command}
 use Rattle.mg_jobs.specs.Completing.{HasShortTarget}

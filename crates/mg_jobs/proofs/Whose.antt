@@ -2,8 +2,8 @@
 use Rattle.std.proofs.Common.{◌≡◌, ◌<◌, ℕ, List, [], length, Some, refl, sym, ap, subst, arith}
 use Rattle.std.specs.List.{sum_by}
 use Rattle.mg_link.specs.Log.{Call}
-use Rattle.mg_link.specs.Owner.{IsOf}
-use Rattle.mg_link.proofs.Owners.{same_some}
+use Rattle.mg_server.specs.Owner.{IsOf}
+use Rattle.mg_server.proofs.Owners.{same_some}
 use Rattle.mg_script.specs.declared.outcome.Turned.{Turned}
 use Rattle.mg_players.specs.Causes.{Course, SentIn, course, places_of}
 use Rattle.mg_players.specs.Counts.{StartedBy}

@@ -5,7 +5,8 @@ use Rattle.mg_bson.specs.Find.{as_array, get}
 use Rattle.mg_bson.specs.Raw.{fields}
 use Rattle.mg_bson.specs.Reading.{◌>>=◌}
 use Rattle.mg_bson.specs.Tree.{Fields, Tree}
-use Rattle.mg_link.specs.Commands.{Asked, asked, asked_by, asks_create, asks_delete, asks_indexes, asks_insert, asks_kill, asks_more, asks_other, asks_query, asks_watch, count_of, create_fields, create_of, delete_by, delete_fields, delete_of, delete_parts, documents_in, filter_at, flag_or, has_only, indexes_in, indexing_fields, indexing_of, insert_of, many_by, one_at, space_at}
+use Rattle.mg_link.specs.Numbers.{count_of}
+use Rattle.mg_server.specs.Commands.{Asked, asked, asked_by, asks_create, asks_delete, asks_indexes, asks_insert, asks_kill, asks_more, asks_other, asks_query, asks_watch, create_fields, create_of, delete_by, delete_fields, delete_of, delete_parts, documents_in, filter_at, flag_or, has_only, indexes_in, indexing_fields, indexing_of, insert_of, many_by, one_at, space_at}
 use Rattle.mg_link.specs.Namespace.{Space}
 use Rattle.mg_options.specs.Fields.{fields_in}
 use Rattle.mg_ops.specs.Bodies.{insert_command}

@@ -3,18 +3,19 @@ use Rattle.std.specs.Prelude.{◌≡◌, ◌⊎◌, ◌≤◌, ◌+◌, ◌++◌
 use Rattle.mg_bson.specs.Tree.{Fields, Tree}
 use Rattle.mg_bson.specs.Raw.{fields}
 use Rattle.mg_bson.specs.Writable.{max_len}
-use Rattle.mg_link.specs.Commands.{Asked, Told, as_database, asked, asks_create, asks_insert, asks_more, refuses}
+use Rattle.mg_link.specs.Namespace.{as_database, Space, Target, cluster, collection, database}
+use Rattle.mg_server.specs.Commands.{Asked, Told, asked, asks_create, asks_insert, asks_more, refuses}
 use Rattle.mg_link.specs.Errors.{plain}
-use Rattle.mg_link.specs.Files.{Bucket, IsWhole, chunked, chunks_space, files_space}
-use Rattle.mg_link.specs.History.{Step, IsLegal, state_of, told_at}
+use Rattle.mg_link.specs.Chunks.{chunked}
+use Rattle.mg_server.specs.Files.{Bucket, IsWhole, chunks_space, files_space}
+use Rattle.mg_server.specs.History.{Step, IsLegal, state_of, told_at}
 use Rattle.mg_link.specs.Link.{LogTold}
 use Rattle.mg_link.specs.Log.{Call}
-use Rattle.mg_link.specs.Namespace.{Space, Target, cluster, collection, database}
-use Rattle.mg_link.specs.Prompt.{IsPrompt}
-use Rattle.mg_link.specs.Rules.{accept, collection_exists, max_name, token_place}
-use Rattle.mg_link.specs.Standing.{Stands}
-use Rattle.mg_link.specs.State.{Start, State, Watch, after, at_time, events_between, nowhere, watching}
-use Rattle.mg_link.specs.Step.{documents_of}
+use Rattle.mg_server.specs.Prompt.{IsPrompt}
+use Rattle.mg_server.specs.Rules.{accept, collection_exists, max_name, token_place}
+use Rattle.mg_server.specs.Standing.{Stands}
+use Rattle.mg_server.specs.State.{Start, State, Watch, after, at_time, events_between, nowhere, watching}
+use Rattle.mg_server.specs.Step.{documents_of}
 use Rattle.mg_link.specs.declared.error.Error.{Error}
 use Rattle.mg_link.specs.declared.error.ErrorKind.TheVariants as kind
 use Rattle.mg_ops.specs.Bodies.{insert_command}

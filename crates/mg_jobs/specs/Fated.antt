@@ -1,6 +1,6 @@
 -- A store that nobody but one link uses.
 use Rattle.std.specs.Prelude.{◌≡◌, ◌<◌, ℕ, List, Some, length, slice_get}
-use Rattle.mg_link.specs.Kept.{Kept}
+use Rattle.mg_server.specs.Kept.{Kept}
 use Rattle.mg_link.specs.Log.{Call}
 
 -- each step of the history is that of one of the calls

@@ -1,9 +1,9 @@
 -- What no job says of a server that keeps the grammar of its replies.
 use Rattle.std.specs.Prelude.{◌≡◌, ◌⊎◌, ℕ, List, Some, slice_get}
-use Rattle.mg_link.specs.History.{IsLegal, Step}
+use Rattle.mg_server.specs.History.{IsLegal, Step}
 use Rattle.mg_link.specs.Link.{LogTold}
 use Rattle.mg_link.specs.Log.{Call}
-use Rattle.mg_link.specs.Standing.{Stands}
+use Rattle.mg_server.specs.Standing.{Stands}
 use Rattle.mg_link.specs.declared.error.Error.{Error}
 use Rattle.mg_link.specs.declared.error.ErrorKind.{ErrorKind}
 use Rattle.mg_link.specs.declared.error.ErrorKind.TheVariants as kind

@@ -6,12 +6,12 @@ use Rattle.std.specs.Io.KnownBytes.{Consumes, Appends}
 use Rattle.mg_link.specs.Causes.{Rose}
 use Rattle.mg_link.specs.Ends.{ReadWhole, TookFront, longest}
 use Rattle.mg_link.specs.Ids.{counted_id}
-use Rattle.mg_link.specs.History.{IsLegal}
-use Rattle.mg_link.specs.Kept.{IsByRules, state_of_kept, steps_of}
+use Rattle.mg_server.specs.History.{IsLegal}
+use Rattle.mg_server.specs.Kept.{IsByRules, state_of_kept, steps_of}
 use Rattle.mg_link.specs.Log.{Call}
-use Rattle.mg_link.specs.Owner.{NamesItsOwn}
+use Rattle.mg_server.specs.Owner.{NamesItsOwn}
 use Rattle.mg_link.specs.Places.{out_at, polls_in}
-use Rattle.mg_link.specs.Standing.{Stands}
+use Rattle.mg_server.specs.Standing.{Stands}
 use Rattle.mg_players.specs.Blaming.{GetsBehind}
 use Rattle.mg_players.specs.Causes.{AllPollOwn, AllWaitAlone, OutcomeCaused, course}
 use Rattle.mg_jobs.specs.Completing.{AnswersWellIn, JobTaken, JobWell, JobWellIn, NoneRefused}

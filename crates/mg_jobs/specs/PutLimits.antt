@@ -1,8 +1,8 @@
 -- What a put has to store and to send, and which puts are valid.
 use Rattle.std.specs.Prelude.{◌≡◌, ◌⊎◌, ◌<◌, ◌≤◌, ◌*◌, ◌^◌, Contains, ℕ, ℤ, List, length, take, Some, slice_get}
-use Rattle.mg_link.specs.History.{Step, state_of}
+use Rattle.mg_server.specs.History.{Step, state_of}
 use Rattle.mg_link.specs.Namespace.{Space}
-use Rattle.mg_link.specs.State.{indexes_of}
+use Rattle.mg_server.specs.State.{indexes_of}
 use Rattle.mg_link.specs.declared.error.Error.{Error}
 use Rattle.mg_link.specs.declared.error.ErrorKind.TheVariants as kind
 use Rattle.mg_options.specs.Fields.{Line}

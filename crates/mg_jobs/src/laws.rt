@@ -1,16 +1,16 @@
 //! What holds of the definitions.
 ghost use Rattle.std.specs.Prelude.{◌≡◌, ◌++◌, ◌∷◌, [], ℕ, ℤ, suc, pos, List, Option, Some, length, slice_get, slice_set, take};
 ghost use Rattle.mg_bson.specs.Tree.{Fields};
-ghost use Rattle.mg_link.specs.Calls.{Grows, Past};
-ghost use Rattle.mg_link.specs.History.{IsLegal, Step, state_of};
+ghost use Rattle.mg_server.specs.Calls.{Grows, Past};
+ghost use Rattle.mg_server.specs.History.{IsLegal, Step, state_of};
 ghost use Rattle.mg_link.specs.Ids.{counted_id};
 ghost use Rattle.mg_link.specs.Link.{Awaited};
 ghost use Rattle.mg_link.specs.Log.{Call};
 ghost use Rattle.mg_link.specs.Namespace.{Space};
-ghost use Rattle.mg_link.specs.Owner.{AreApart, Owner, Passes};
-ghost use Rattle.mg_link.specs.Standing.{Stands};
-ghost use Rattle.mg_link.specs.State.{documents_at};
-ghost use Rattle.mg_link.specs.Step.{documents_of};
+ghost use Rattle.mg_server.specs.Owner.{AreApart, Owner, Passes};
+ghost use Rattle.mg_server.specs.Standing.{Stands};
+ghost use Rattle.mg_server.specs.State.{documents_at};
+ghost use Rattle.mg_server.specs.Step.{documents_of};
 ghost use Rattle.mg_ops.specs.Appended.{Appended, InsertsAt};
 ghost use Rattle.mg_players.specs.Causes.{Course, OutcomeCaused};
 ghost use Rattle.mg_jobs.specs.Completing.{JobWell, OutcomeGot};

@@ -1,5 +1,5 @@
 -- The names of collections, and what commands are aimed at.
-use Rattle.std.specs.Prelude.{ℕ, ◌&&◌, ◌==◌, ◌++◌, List, length, Bool, Option, Some, None, nat_lt, codes, string_bytes, if◌then◌else◌}
+use Rattle.std.specs.Prelude.{ℕ, ◌&&◌, ◌||◌, ◌==◌, ◌++◌, ◌∷◌, [], List, length, Bool, false, Option, Some, None, nat_lt, codes, string_bytes, if◌then◌else◌}
 use Rattle.std.specs.List.{before_first, after_first, position_or_len}
 use Rattle.mg_link.specs.declared.namespace.Namespace.{Namespace}
 use Rattle.mg_link.specs.declared.namespace.OperationTarget.{OperationTarget}
@@ -18,6 +18,20 @@ pub data Target : Type 0 where
 
 abbrev pub is_dot : ℕ → Bool
 is_dot b = b == 46
+
+abbrev pub has_dot : List ℕ → Bool
+has_dot [] = false
+has_dot (b ∷ bs) = b == 46 || has_dot bs
+
+-- a text that may name a database: it is not empty and has no dot
+abbrev pub as_database : List ℕ → Option (List ℕ)
+as_database [] = None
+as_database (b ∷ bs) = if has_dot (b ∷ bs) then None else Some (b ∷ bs)
+
+-- a text that may name a collection: it is not empty
+abbrev pub as_collection : List ℕ → Option (List ℕ)
+as_collection [] = None
+as_collection (b ∷ bs) = Some (b ∷ bs)
 
 -- the namespace with this full name: the parts before and behind the first dot, where neither is empty
 abbrev pub space_of : List ℕ → Option Space

@@ -1,15 +1,12 @@
-//! The way to a server and what comes back: links and their logs, commands that are tried again, errors, ids, and the
-//! ends of a program. Its definitions say what a server holds, may reply and shows.
+//! The way to a server and what comes back: links and their logs, errors, sessions, ids, and the ends of a program.
 #![tactic(auto)]
 
 mod action;
-mod attempt;
 mod codes;
 mod concern;
 mod ends;
 mod error;
 mod error_text;
-mod exec;
 mod history;
 mod id_source;
 mod labels;
@@ -29,13 +26,13 @@ mod std_ends;
 mod writing;
 
 pub use action::{Action, Step};
+pub use codes::is_among;
 pub use concern::{Acknowledgment, ReadConcern, ReadConcernLevel, WriteConcern};
 pub use ends::{ReadFailed, Sink, Source, WriteFailed};
 pub use error::{
     BadArgument, CommandError, Error, ErrorKind, GridFsErrorKind, GridFsFileIdentifier,
     IndexedFailure, Malformed, Mismatch, OutOfMemory, WriteFailure, plain,
 };
-pub use exec::{Exec, Retry};
 pub use history::{HistoryStep, Receipt};
 pub use id_source::{CountedIds, IdSource};
 pub use labels::Labels;

@@ -4,15 +4,15 @@ use Rattle.std.specs.Prelude.{slice_get}
 use Rattle.std.specs.Option.{option_flatten}
 use Rattle.mg_bson.specs.Tree.{Fields}
 use Rattle.mg_bson.specs.declared.object_id.ObjectId.{ObjectId}
-use Rattle.mg_link.specs.Calls.{Grows, IsOwn, Keeps, Past, past_of}
-use Rattle.mg_link.specs.Commands.{asked, asks_insert, inserted, told}
+use Rattle.mg_server.specs.Calls.{Grows, IsOwn, Keeps, Past, past_of}
+use Rattle.mg_server.specs.Commands.{asked, asks_insert, inserted, told}
 use Rattle.mg_link.specs.Exec.{Stage, unsent, first, second, Sending, Attempt, not_sent, waits, answered, Begins, GoesOn, Tries, AttemptGives, Runs, IsSuccess, holding, ticket_at, ticket_of}
 use Rattle.mg_link.specs.Link.{Awaited, LogTold}
 use Rattle.mg_link.specs.Log.{Sight, waiting, reply, Call, see}
 use Rattle.mg_link.specs.Namespace.{Space}
 use Rattle.mg_link.specs.declared.action.Step.{Step}
 use Rattle.mg_link.specs.declared.action.Step.TheVariants as step
-use Rattle.mg_link.proofs.Calls.{log_grows, keeps_longer, see_keeps}
+use Rattle.mg_server.proofs.Calls.{log_grows, keeps_longer, see_keeps}
 use Rattle.mg_link.proofs.Places.{get_front, get_seam, get_within, take_more}
 use Rattle.mg_ops.specs.Appended.{InsertsAt, Piece, ArePieces, InsertedBelow, Appended}
 use Rattle.mg_ops.specs.Underway.{with_id, IsBatch, IsSameList, sent_of, WaitsBehind, Holding}

@@ -9,11 +9,11 @@ use Rattle.mg_bson.specs.Raw.{fields}
 use Rattle.mg_bson.specs.View.{tree}
 use Rattle.mg_bson.proofs.Joining.{joined_all}
 use Rattle.mg_link.specs.Namespace.{Space, Target, database, collection, cluster}
-use Rattle.mg_link.specs.Filter.{Condition}
-use Rattle.mg_link.specs.Query.{Query}
+use Rattle.mg_server.specs.Filter.{Condition}
+use Rattle.mg_server.specs.Query.{Query}
 use Rattle.mg_link.specs.Session.{Session}
-use Rattle.mg_link.specs.State.{Start}
-use Rattle.mg_link.specs.Commands.{Asked, asked, asked_by, asks_insert, asks_kill, asks_more, asks_other, asks_watch, documents_in, filter_stages, insert_of, integers_in, is_cluster, kill_of, more_of, space_at, start_of, watch_of, or_asks, pipeline_query, piped, stages_in, asks_query, has_only, pipeline_fields}
+use Rattle.mg_server.specs.State.{Start}
+use Rattle.mg_server.specs.Commands.{Asked, asked, asked_by, asks_insert, asks_kill, asks_more, asks_other, asks_watch, documents_in, filter_stages, insert_of, integers_in, is_cluster, kill_of, more_of, space_at, start_of, watch_of, or_asks, pipeline_query, piped, stages_in, asks_query, has_only, pipeline_fields}
 use Rattle.mg_options.specs.Fields.{Line, line, shown, given, fields_in, ◌⟼◌⨾◌, nothing}
 use Rattle.mg_ops.specs.Given.{◌⇢◌⨾◌}
 use Rattle.mg_options.specs.Options.{change_stream_fields}

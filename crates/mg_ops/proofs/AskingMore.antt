@@ -7,12 +7,12 @@ use Rattle.mg_bson.specs.Tree.{Tree, Fields, no_fields, field}
 use Rattle.mg_bson.specs.Find.{as_document}
 use Rattle.mg_bson.specs.Reading.{◌>>=◌}
 use Rattle.mg_bson.specs.Raw.{fields}
-use Rattle.mg_link.specs.Namespace.{Space, collection}
-use Rattle.mg_link.specs.Filter.{Condition, conditions_of}
-use Rattle.mg_link.specs.Query.{Stage, of_collection, of_database, of_indexes, selects}
+use Rattle.mg_link.specs.Namespace.{Space, collection, as_database}
+use Rattle.mg_server.specs.Filter.{Condition, conditions_of}
+use Rattle.mg_server.specs.Query.{Stage, of_collection, of_database, of_indexes, selects}
 use Rattle.mg_link.specs.Session.{Session}
-use Rattle.mg_link.specs.Write.{Modification}
-use Rattle.mg_link.specs.Commands.{Asked, as_database, asked, asked_by, asks_create, asks_delete, asks_drop, asks_indexes, asks_query, asks_update, collections_fields, collections_query, create_fields, create_of, delete_fields, delete_of, drop_fields, drop_of, find_fields, find_of, has_only, indexes_fields, indexes_query, indexing_fields, indexing_of, modification_of, batch_size, or_asks, pipeline_fields, pipeline_of, pipeline_query, space_at, stage_by, stage_of, update_fields, update_of, watch_by, watch_from, watch_of, watch_stage_options}
+use Rattle.mg_server.specs.Write.{Modification}
+use Rattle.mg_server.specs.Commands.{Asked, asked, asked_by, asks_create, asks_delete, asks_drop, asks_indexes, asks_query, asks_update, collections_fields, collections_query, create_fields, create_of, delete_fields, delete_of, drop_fields, drop_of, find_fields, find_of, has_only, indexes_fields, indexes_query, indexing_fields, indexing_of, modification_of, batch_size, or_asks, pipeline_fields, pipeline_of, pipeline_query, space_at, stage_by, stage_of, update_fields, update_of, watch_by, watch_from, watch_of, watch_stage_options}
 use Rattle.mg_link.specs.declared.concern.WriteConcern.{WriteConcern}
 use Rattle.mg_options.specs.Fields.{Line, absent, fields_in, ◌⟼◌⨾◌, nothing}
 use Rattle.mg_options.specs.Shown.{concern_lines, write_concern}

@@ -10,7 +10,7 @@ use Rattle.mg_bson.specs.Bytes.{bytes, fields_bytes, framed, le32}
 use Rattle.mg_bson.specs.Tree.{Fields}
 use Rattle.mg_bson.specs.Raw.{fields}
 use Rattle.mg_bson.specs.declared.object_id.ObjectId.{ObjectId}
-use Rattle.mg_link.specs.Calls.{Flies, Grows, Past, past_of, AddsOnly}
+use Rattle.mg_server.specs.Calls.{Flies, Grows, Past, past_of, AddsOnly}
 use Rattle.mg_link.specs.Exec.{Runs, Sending}
 use Rattle.mg_link.specs.Link.{Awaited, LogTold}
 use Rattle.mg_link.specs.Log.{Call}
@@ -18,8 +18,8 @@ use Rattle.mg_link.specs.Namespace.{Space, space}
 use Rattle.mg_link.specs.declared.action.Step.{Step}
 use Rattle.mg_link.specs.declared.action.Step.TheVariants as step
 use Rattle.mg_link.specs.declared.error.Error.{Error}
-use Rattle.mg_link.proofs.Calls.{HoldsOwn, awaited_by, own_by, request_ran, success_ran}
-use Rattle.mg_link.proofs.Pasts.{fails_anyhow, flies_grows, request_fails_grows}
+use Rattle.mg_server.proofs.Calls.{HoldsOwn, awaited_by, own_by, request_ran, success_ran}
+use Rattle.mg_server.proofs.Pasts.{fails_anyhow, flies_grows, request_fails_grows}
 use Rattle.mg_ops.specs.Bodies.{insert_command}
 use Rattle.mg_ops.specs.Failing.{CannotBeInserted, CannotBeSent, FailsBy}
 use Rattle.mg_ops.specs.Limits.{max_documents}
@@ -35,7 +35,7 @@ use Rattle.mg_ops.specs.declared.inserting.Heard.TheVariants as heard
 use Rattle.mg_ops.specs.declared.inserting.Inserting.{Inserting}
 use Rattle.mg_ops.specs.declared.inserting.Next.TheVariants as next
 use Rattle.mg_link.proofs.Places.{take_more}
-use Rattle.mg_link.proofs.Adding.{adds_on, adds_ran}
+use Rattle.mg_server.proofs.Adding.{adds_on, adds_ran}
 use Rattle.mg_ops.proofs.Appending.{same_sent, sent_at, sent_length}
 use Rattle.mg_ops.proofs.Plainly.{same_command}
 

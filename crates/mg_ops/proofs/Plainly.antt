@@ -5,8 +5,8 @@ use Rattle.mg_bson.specs.Tree.{Fields}
 use Rattle.mg_bson.specs.Raw.{fields}
 use Rattle.mg_bson.specs.Find.{as_array, get}
 use Rattle.mg_link.specs.Namespace.{Space}
-use Rattle.mg_link.specs.Commands.{asked, asked_by, asks_insert, asks_other, documents_in, flag_or, insert_of, space_at}
-use Rattle.mg_link.specs.Standing.{Names}
+use Rattle.mg_server.specs.Commands.{asked, asked_by, asks_insert, asks_other, documents_in, flag_or, insert_of, space_at}
+use Rattle.mg_server.specs.Standing.{Names}
 use Rattle.mg_link.specs.Acts.{Tickets}
 use Rattle.mg_link.specs.Exec.{Sending, Runs}
 use Rattle.mg_link.specs.Link.{Awaited, LogTold}

@@ -4,9 +4,8 @@ use Rattle.std.specs.Prelude.{codes, option_and_then, nat_lt, ◌&&◌, ◌||◌
 use Rattle.std.specs.List.{before_first, after_first, position_or_len}
 use Rattle.mg_bson.specs.Tree.{Tree, Fields, Items}
 use Rattle.mg_bson.specs.Find.{as_document, as_int64, get}
-use Rattle.mg_link.specs.Filter.{has_dot}
-use Rattle.mg_link.specs.Namespace.{Space, is_dot, space_of}
-use Rattle.mg_link.specs.Commands.{Batch, as_collection, as_database, batch_by, batch_items, batch_of, documents_in, text_of, token_in}
+use Rattle.mg_link.specs.Namespace.{has_dot, Space, is_dot, space_of, as_collection, as_database}
+use Rattle.mg_server.specs.Commands.{Batch, batch_by, batch_items, batch_of, documents_in, text_of, token_in}
 use Rattle.mg_link.specs.declared.error.Malformed.{Malformed}
 use Rattle.mg_link.specs.declared.error.Malformed.TheVariants as malformed
 use Rattle.mg_ops.specs.Cursors.{Cursor, batch_at, cursor_in, cursor_of, found, ◌>>=◌}

@@ -5,12 +5,13 @@ use Rattle.mg_bson.specs.Tree.{Tree, Fields, Items, no_items, item, array}
 use Rattle.mg_bson.specs.Find.{as_array, as_document, as_int64, get}
 use Rattle.mg_bson.specs.Raw.{fields}
 use Rattle.mg_link.specs.Namespace.{Space, space_of}
-use Rattle.mg_link.specs.Filter.{Condition}
-use Rattle.mg_link.specs.Query.{Query}
+use Rattle.mg_server.specs.Filter.{Condition}
+use Rattle.mg_server.specs.Query.{Query}
 use Rattle.mg_link.specs.Reply.{verdict_of}
-use Rattle.mg_link.specs.State.{Index}
-use Rattle.mg_link.specs.Write.{Modification}
-use Rattle.mg_link.specs.Commands.{Batch, as_integer, asks_create, asks_delete, asks_drop, asks_indexes, asks_insert, asks_more, asks_query, asks_update, batch_by, batch_items, batch_of, deleted, deleted_by, documents_in, done, failures_at, gave, inserted, inserted_by, opened, time_in, updated, updated_by, text_of, token_in, told, list_write_errors, is_concern_error, keeps_grammar, are_write_errors}
+use Rattle.mg_server.specs.State.{Index}
+use Rattle.mg_server.specs.Write.{Modification}
+use Rattle.mg_link.specs.Numbers.{as_integer}
+use Rattle.mg_server.specs.Commands.{Batch, asks_create, asks_delete, asks_drop, asks_indexes, asks_insert, asks_more, asks_query, asks_update, batch_by, batch_items, batch_of, deleted, deleted_by, documents_in, done, failures_at, gave, inserted, inserted_by, opened, time_in, updated, updated_by, text_of, token_in, told, list_write_errors, is_concern_error, keeps_grammar, are_write_errors}
 use Rattle.mg_link.specs.declared.error.Malformed.{Malformed}
 use Rattle.mg_link.specs.declared.error.Malformed.TheVariants as malformed
 use Rattle.mg_link.specs.declared.reply.Verdict.TheVariants as verdict

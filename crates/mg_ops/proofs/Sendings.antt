@@ -2,8 +2,8 @@
 use Rattle.std.proofs.Common.{◌≡◌, ℕ, ℤ, pos, true, List, ◌++◌, length, Option, Some, None, refl, sym, ap, ◌∙◌, subst, take, arith}
 use Rattle.mg_bson.specs.Tree.{Fields}
 use Rattle.mg_bson.specs.Raw.{fields}
-use Rattle.mg_link.specs.Calls.{Grows, Past, past_of}
-use Rattle.mg_link.specs.Commands.{asked, asks_insert}
+use Rattle.mg_server.specs.Calls.{Grows, Past, past_of}
+use Rattle.mg_server.specs.Commands.{asked, asks_insert}
 use Rattle.mg_link.specs.Exec.{Runs, ticket_of}
 use Rattle.mg_link.specs.Link.{Awaited, LogTold}
 use Rattle.mg_link.specs.Namespace.{Space, space}

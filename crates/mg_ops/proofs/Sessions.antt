@@ -5,7 +5,7 @@ use Rattle.std.specs.Str.{bytes_eq}
 use Rattle.mg_bson.specs.Tree.{Tree, document, int64, boolean, Fields, no_fields, field}
 use Rattle.mg_bson.specs.Find.{get, joined}
 use Rattle.mg_bson.proofs.Joining.{joined_all}
-use Rattle.mg_link.specs.Commands.{has_only, ignored, is_name_among}
+use Rattle.mg_server.specs.Commands.{has_only, ignored, is_name_among}
 use Rattle.mg_link.specs.Errors.{plain}
 use Rattle.mg_link.specs.Session.{Session, in_transaction, starts_transaction}
 use Rattle.mg_link.specs.declared.error.BadArgument.{BadArgument}

@@ -1,7 +1,7 @@
 -- A request whose reply is a success that was not read.
 use Rattle.std.proofs.Common.{ℕ, Bool, List, ap, inl, inr}
 use Rattle.mg_bson.specs.Tree.{Fields}
-use Rattle.mg_link.specs.Calls.{HeardLast, Past, RequestFails, out_of_memory, was_broken}
+use Rattle.mg_server.specs.Calls.{HeardLast, Past, RequestFails, out_of_memory, was_broken}
 use Rattle.mg_link.specs.Exec.{IsSuccess}
 use Rattle.mg_link.specs.Log.{reply}
 use Rattle.mg_link.specs.declared.error.Error.{Error}

@@ -1,9 +1,9 @@
 -- What the aggregate of a change stream asks for, whatever its arguments are.
 use Rattle.std.specs.Prelude.{List, Option, Some, None, option_map, option_and_then, codes}
 use Rattle.mg_bson.specs.Tree.{Fields}
-use Rattle.mg_link.specs.Commands.{Asked, asks_other, asks_watch, as_collection, as_database, filter_stages, whole_target}
-use Rattle.mg_link.specs.Namespace.{Target, database, collection, cluster}
-use Rattle.mg_link.specs.State.{Start, Watch}
+use Rattle.mg_link.specs.Namespace.{as_collection, as_database, Target, database, collection, cluster}
+use Rattle.mg_server.specs.Commands.{Asked, asks_other, asks_watch, filter_stages, whole_target}
+use Rattle.mg_server.specs.State.{Start, Watch}
 use Rattle.mg_options.specs.declared.change_stream.ChangeStreamOptions.{ChangeStreamOptions}
 use Rattle.mg_ops.specs.Naming.{start_in, watches_all}
 

@@ -1,8 +1,8 @@
 -- What an insert appended to its collection, and by which commands.
 use Rattle.std.specs.Prelude.{◌≡◌, ◌<◌, ◌++◌, ℕ, ℤ, true, List, [], ◌∷◌, length, Some, slice_get}
 use Rattle.mg_bson.specs.Tree.{Fields}
-use Rattle.mg_link.specs.Calls.{IsOwn, Past}
-use Rattle.mg_link.specs.Commands.{asked, asks_insert, inserted, told}
+use Rattle.mg_server.specs.Calls.{IsOwn, Past}
+use Rattle.mg_server.specs.Commands.{asked, asks_insert, inserted, told}
 use Rattle.mg_link.specs.Log.{reply, Call}
 use Rattle.mg_link.specs.Namespace.{Space}
 

@@ -6,7 +6,7 @@ use Rattle.mg_bson.specs.Raw.{fields, items}
 use Rattle.mg_bson.specs.View.{tree}
 use Rattle.mg_bson.specs.declared.tree.Bson.{Bson}
 use Rattle.mg_link.specs.Namespace.{Space, space, space_of}
-use Rattle.mg_link.specs.Commands.{batch_items, text_of, token_in}
+use Rattle.mg_server.specs.Commands.{batch_items, text_of, token_in}
 use Rattle.mg_link.specs.Errors.{plain}
 use Rattle.mg_link.specs.declared.error.Error.{Error}
 use Rattle.mg_link.specs.declared.error.ErrorKind.TheVariants as kind

@@ -5,7 +5,7 @@ use Rattle.mg_bson.specs.Bytes.{bytes}
 use Rattle.mg_bson.specs.Tree.{Fields}
 use Rattle.mg_bson.specs.Raw.{fields}
 use Rattle.mg_bson.specs.Writable.{max_len}
-use Rattle.mg_link.specs.Calls.{IsAwaited, Flies, Past, RequestFails, past_of, AddsOnly}
+use Rattle.mg_server.specs.Calls.{IsAwaited, Flies, Past, RequestFails, past_of, AddsOnly}
 use Rattle.mg_link.specs.Exec.{unsent}
 use Rattle.mg_link.specs.Link.{Awaited, LogTold}
 use Rattle.mg_link.specs.Log.{Call}

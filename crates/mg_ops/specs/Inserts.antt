@@ -1,7 +1,7 @@
 -- An insert that goes on while replies pend.
 use Rattle.std.specs.Prelude.{◌≡◌, ◌<◌, ◌+◌, ◌-◌, ◌*◌, ℕ, ℤ, List, length, Option, Some, None}
-use Rattle.mg_link.specs.Commands.{asked}
-use Rattle.mg_link.specs.Standing.{Names}
+use Rattle.mg_server.specs.Commands.{asked}
+use Rattle.mg_server.specs.Standing.{Names}
 use Rattle.mg_link.specs.declared.action.Step.{Step}
 use Rattle.mg_link.specs.declared.action.Step.TheVariants as step
 use Rattle.mg_link.specs.Acts.{PendsAfter}

@@ -1,8 +1,8 @@
 -- Which names a server takes.
 use Rattle.std.specs.Prelude.{◌≡◌, Bool, false, Option, Some, unwrap_or, option_map}
-use Rattle.mg_link.specs.Namespace.{Space}
-use Rattle.mg_link.specs.Commands.{as_collection, as_database, start_by}
-use Rattle.mg_link.specs.State.{Start}
+use Rattle.mg_link.specs.Namespace.{Space, as_collection, as_database}
+use Rattle.mg_server.specs.Commands.{start_by}
+use Rattle.mg_server.specs.State.{Start}
 use Rattle.mg_options.specs.Printing.{time_value}
 use Rattle.mg_options.specs.declared.change_stream.ChangeStreamOptions.{ChangeStreamOptions}
 

@@ -3,8 +3,8 @@ use Rattle.std.specs.Prelude.{◌++◌, false, List, Option, Some, None, if◌th
 use Rattle.mg_bson.specs.Tree.{document, int64, boolean, Fields}
 use Rattle.mg_bson.specs.Find.{joined}
 use Rattle.mg_link.specs.Session.{Session, in_transaction, starts_transaction}
-use Rattle.mg_link.specs.declared.exec.Retry.{Retry}
-use Rattle.mg_link.specs.declared.exec.Retry.TheVariants as retries
+use Rattle.mg_exec.specs.declared.exec.Retry.{Retry}
+use Rattle.mg_exec.specs.declared.exec.Retry.TheVariants as retries
 use Rattle.mg_options.specs.Fields.{Line, Shown, absent, shown, ◌⟼◌⨾◌, nothing, fields_in}
 use Rattle.mg_options.specs.Printing.{flag}
 use Rattle.mg_ops.specs.Pieces.{only_true}

@@ -2,8 +2,8 @@
 use Rattle.std.specs.Prelude.{◌≡◌, ◌≤◌, ◌++◌, ℕ, ℤ, true, List, [], ◌∷◌, length, take, Option, Some, None, slice_get, codes}
 use Rattle.mg_bson.specs.Tree.{object_id, Fields, field}
 use Rattle.mg_bson.specs.declared.object_id.ObjectId.{ObjectId}
-use Rattle.mg_link.specs.Calls.{IsOwn, Past, past_of}
-use Rattle.mg_link.specs.Commands.{asked, asks_insert}
+use Rattle.mg_server.specs.Calls.{IsOwn, Past, past_of}
+use Rattle.mg_server.specs.Commands.{asked, asks_insert}
 use Rattle.mg_link.specs.Exec.{ticket_of}
 use Rattle.mg_link.specs.Link.{Awaited, LogTold}
 use Rattle.mg_link.specs.Log.{Call}

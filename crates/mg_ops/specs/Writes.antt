@@ -3,7 +3,7 @@ use Rattle.std.specs.Prelude.{◌≡◌, ◌⊎◌, ◌++◌, ℕ, ℤ, pos, neg
 use Rattle.mg_bson.specs.Tree.{Tree, Fields, Items, no_items, item}
 use Rattle.mg_bson.specs.Find.{get, as_document, as_array, as_int32, as_string}
 use Rattle.mg_bson.specs.Raw.{fields}
-use Rattle.mg_link.specs.Commands.{as_integer}
+use Rattle.mg_link.specs.Numbers.{as_integer}
 use Rattle.mg_link.specs.declared.error.Malformed.{Malformed}
 use Rattle.mg_link.specs.declared.error.Malformed.TheVariants as malformed
 use Rattle.mg_link.specs.declared.error.ErrorKind.{ErrorKind}

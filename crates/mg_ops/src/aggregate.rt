@@ -17,7 +17,8 @@ use crate::operation::Operation;
 use crate::resuming::resume_options;
 use crate::session::read_retry;
 use mg_bson::{Document, RawDocument, RawDocumentBuf, Timestamp};
-use mg_link::{ClientSession, Error, Retry};
+use mg_exec::Retry;
+use mg_link::{ClientSession, Error};
 use mg_options::{ChangeStreamOptions, Value};
 use std::alloc::Global;
 

@@ -12,7 +12,8 @@ use crate::insert_reply::{changed_of, count_of};
 use crate::operation::Operation;
 use crate::write_reply::check_written;
 use mg_bson::{Document, RawDocument, RawDocumentBuf};
-use mg_link::{ClientSession, Error, Namespace, Retry, WriteConcern};
+use mg_exec::Retry;
+use mg_link::{ClientSession, Error, Namespace, WriteConcern};
 use mg_options::{DeleteOptions, UpdateModifications, Value};
 use std::alloc::Global;
 
@@ -117,7 +118,7 @@ impl Operation for Delete {
     ghost use Rattle.std.specs.Prelude.{◌≡◌, None};
     ghost use Rattle.mg_bson.specs.Raw.{fields};
     ghost use Rattle.mg_link.specs.Namespace.{space};
-    ghost use Rattle.mg_link.specs.declared.exec.Retry.TheVariants as retries;
+    ghost use Rattle.mg_exec.specs.declared.exec.Retry.TheVariants as retries;
     ghost use Rattle.mg_options.specs.Fields.{Refuses, fields_in, first_unfit};
     ghost use Rattle.mg_ops.specs.Bodies.{delete_body};
     ghost use Rattle.mg_ops.specs.Writes.{FailedAs, Wrote, count_of};
@@ -194,7 +195,7 @@ impl Operation for Update {
     ghost use Rattle.std.specs.Prelude.{◌≡◌, None};
     ghost use Rattle.mg_bson.specs.Raw.{fields};
     ghost use Rattle.mg_link.specs.Namespace.{space};
-    ghost use Rattle.mg_link.specs.declared.exec.Retry.TheVariants as retries;
+    ghost use Rattle.mg_exec.specs.declared.exec.Retry.TheVariants as retries;
     ghost use Rattle.mg_options.specs.Fields.{Refuses, fields_in, first_unfit};
     ghost use Rattle.mg_ops.specs.Bodies.{update_body};
     ghost use Rattle.mg_ops.specs.Updates.{counted};

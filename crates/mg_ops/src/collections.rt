@@ -4,7 +4,8 @@ use crate::entry::Entry;
 use crate::operation::Operation;
 use crate::write_reply::check_written;
 use mg_bson::{Document, RawDocumentBuf};
-use mg_link::{ClientSession, Error, Namespace, Retry, WriteConcern};
+use mg_exec::Retry;
+use mg_link::{ClientSession, Error, Namespace, WriteConcern};
 use mg_options::{CreateIndexOptions, DropCollectionOptions, Value};
 use std::alloc::Global;
 
@@ -78,7 +79,7 @@ impl Operation for Create {
     ghost use Rattle.std.specs.Prelude.{◌≡◌, [], Ok, None};
     ghost use Rattle.mg_bson.specs.Raw.{fields};
     ghost use Rattle.mg_link.specs.Namespace.{space};
-    ghost use Rattle.mg_link.specs.declared.exec.Retry.TheVariants as retries;
+    ghost use Rattle.mg_exec.specs.declared.exec.Retry.TheVariants as retries;
     ghost use Rattle.mg_options.specs.Fields.{Refuses, fields_in, first_unfit};
     ghost use Rattle.mg_ops.specs.Bodies.{create_body};
     ghost use Rattle.mg_ops.specs.Writes.{WriteFails, failures_of};
@@ -130,7 +131,7 @@ impl Operation for DropCollection {
     ghost use Rattle.std.specs.Prelude.{◌≡◌, [], Ok, None};
     ghost use Rattle.mg_bson.specs.Raw.{fields};
     ghost use Rattle.mg_link.specs.Namespace.{space};
-    ghost use Rattle.mg_link.specs.declared.exec.Retry.TheVariants as retries;
+    ghost use Rattle.mg_exec.specs.declared.exec.Retry.TheVariants as retries;
     ghost use Rattle.mg_options.specs.Fields.{Refuses, fields_in, first_unfit};
     ghost use Rattle.mg_ops.specs.Bodies.{drop_body};
     ghost use Rattle.mg_ops.specs.Writes.{WriteFails, failures_of};
@@ -180,7 +181,7 @@ impl Operation for CreateIndexes {
     ghost use Rattle.std.specs.Prelude.{◌≡◌, [], Ok, None};
     ghost use Rattle.mg_bson.specs.Raw.{fields};
     ghost use Rattle.mg_link.specs.Namespace.{space};
-    ghost use Rattle.mg_link.specs.declared.exec.Retry.TheVariants as retries;
+    ghost use Rattle.mg_exec.specs.declared.exec.Retry.TheVariants as retries;
     ghost use Rattle.mg_options.specs.Fields.{Refuses, fields_in, first_unfit};
     ghost use Rattle.mg_ops.specs.Bodies.{create_indexes_body};
     ghost use Rattle.mg_ops.specs.Writes.{WriteFails, failures_of};

@@ -4,7 +4,7 @@ ghost use Rattle.mg_bson.specs.Find.{as_int64, get};
 ghost use Rattle.mg_bson.specs.Raw.{fields, items};
 ghost use Rattle.mg_bson.specs.RawView.{value};
 ghost use Rattle.mg_bson.specs.View.{tree};
-ghost use Rattle.mg_link.specs.Commands.{array_in, as_token, batch_items, text_of, token_in};
+ghost use Rattle.mg_server.specs.Commands.{array_in, as_token, batch_items, text_of, token_in};
 ghost use Rattle.mg_link.specs.Namespace.{space, space_of};
 ghost use Rattle.mg_link.specs.declared.error.Malformed.TheVariants as malformed;
 ghost use Rattle.mg_ops.specs.Commands.{more_command};

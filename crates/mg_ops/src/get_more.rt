@@ -14,7 +14,8 @@ use crate::operation::Operation;
 use crate::parts::{size, text};
 use crate::session::in_session;
 use mg_bson::{Bson, Document, RawDocumentBuf};
-use mg_link::{ClientSession, Error, Namespace, Retry};
+use mg_exec::Retry;
+use mg_link::{ClientSession, Error, Namespace};
 use std::alloc::Global;
 
 /// Asks for the next batch of a cursor.
@@ -103,7 +104,7 @@ impl Operation for GetMore {
     type Output = GetMoreResult;
 
     ghost use Rattle.mg_link.specs.Namespace.{space};
-    ghost use Rattle.mg_link.specs.declared.exec.Retry.TheVariants as retries;
+    ghost use Rattle.mg_exec.specs.declared.exec.Retry.TheVariants as retries;
     ghost use Rattle.std.specs.Prelude.{option_map};
     ghost use Rattle.mg_bson.specs.View.{tree};
     ghost use Rattle.mg_ops.specs.Commands.{more_command};

@@ -16,7 +16,8 @@ use crate::insert_reply::read_inserted;
 use crate::operation::{Operation, written};
 use crate::parts::documents_array;
 use mg_bson::{Array, Bson, Document, RawDocumentBuf};
-use mg_link::{BadArgument, ClientSession, Error, ErrorKind, Namespace, Retry, plain};
+use mg_exec::Retry;
+use mg_link::{BadArgument, ClientSession, Error, ErrorKind, Namespace, plain};
 use mg_options::{InsertManyOptions, Value, put_given};
 use std::alloc::Global;
 
@@ -149,7 +150,7 @@ impl Operation for Insert {
     ghost use Rattle.std.specs.Prelude.{◌≡◌, None, length};
     ghost use Rattle.mg_bson.specs.Raw.{fields};
     ghost use Rattle.mg_link.specs.Namespace.{space};
-    ghost use Rattle.mg_link.specs.declared.exec.Retry.TheVariants as retries;
+    ghost use Rattle.mg_exec.specs.declared.exec.Retry.TheVariants as retries;
     ghost use Rattle.mg_options.specs.Fields.{fields_in, first_unfit};
     ghost use Rattle.mg_ops.specs.Bodies.{insert_body};
     ghost use Rattle.mg_ops.specs.Failing.{CannotInsert};

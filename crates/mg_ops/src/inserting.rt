@@ -7,7 +7,7 @@ ghost use Rattle.mg_link.specs.Exec.{ticket_of};
 ghost use Rattle.mg_link.specs.Link.{Later};
 ghost use Rattle.mg_link.specs.Errors.{plain};
 ghost use Rattle.mg_link.specs.declared.error.ErrorKind.TheVariants as kinds;
-ghost use Rattle.mg_link.specs.Owner.{PassesPlain};
+ghost use Rattle.mg_server.specs.Owner.{PassesPlain};
 ghost use Rattle.mg_ops.specs.Failing.{CannotBeSent, FailsBy};
 ghost use Rattle.mg_ops.specs.Limits.{max_documents};
 ghost use Rattle.mg_ops.specs.InsertSends.{HearsOnce, NextOnce, SendsOn};
@@ -19,7 +19,8 @@ ghost use Rattle.mg_ops.specs.Underway.{GivesCount, HearsSent, Inserts, IsBatch,
 use crate::insert::{Insert, MAX_DOCUMENTS};
 use crate::operation::{Operation, encode};
 use mg_bson::{Bson, BsonError, Document, ObjectId};
-use mg_link::{Action, Error, ErrorKind, Exec, IdSource, Link, Namespace, Retry, Step, plain};
+use mg_exec::{Exec, Retry};
+use mg_link::{Action, Error, ErrorKind, IdSource, Link, Namespace, Step, plain};
 use mg_options::InsertManyOptions;
 use std::alloc::Global;
 

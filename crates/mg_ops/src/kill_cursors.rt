@@ -9,7 +9,8 @@ use crate::operation::Operation;
 use crate::parts::{ids, text};
 use crate::session::in_session;
 use mg_bson::{Bson, Document, RawDocumentBuf};
-use mg_link::{ClientSession, Error, Namespace, Retry};
+use mg_exec::Retry;
+use mg_link::{ClientSession, Error, Namespace};
 use std::alloc::Global;
 
 /// Kills cursors.
@@ -38,7 +39,7 @@ impl Operation for KillCursors {
     type Output = ();
 
     ghost use Rattle.mg_link.specs.Namespace.{space};
-    ghost use Rattle.mg_link.specs.declared.exec.Retry.TheVariants as retries;
+    ghost use Rattle.mg_exec.specs.declared.exec.Retry.TheVariants as retries;
     ghost use Rattle.mg_ops.specs.Commands.{kill_command};
     ghost use Rattle.mg_ops.specs.Sessions.{in_session};
 

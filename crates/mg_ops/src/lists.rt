@@ -5,7 +5,8 @@ use crate::entry::Entry;
 use crate::operation::Operation;
 use crate::session::read_retry;
 use mg_bson::{Document, RawDocumentBuf};
-use mg_link::{ClientSession, Error, Namespace, Retry};
+use mg_exec::Retry;
+use mg_link::{ClientSession, Error, Namespace};
 use mg_options::{ListCollectionsOptions, ListIndexesOptions, Value};
 use std::alloc::Global;
 

@@ -6,11 +6,12 @@ ghost use Rattle.mg_bson.specs.Raw.{fields};
 ghost use Rattle.mg_bson.specs.Writable.{IsWritable};
 ghost use Rattle.mg_link.specs.Session.{Session};
 ghost use Rattle.mg_link.specs.declared.error.Error.{Error};
-ghost use Rattle.mg_link.specs.declared.exec.Retry.{Retry};
+ghost use Rattle.mg_exec.specs.declared.exec.Retry.{Retry};
 ghost use Rattle.mg_ops.specs.Failing.{CannotBeSent, FailsBy};
 
 use mg_bson::{Document, RawDocumentBuf, to_bytes};
-use mg_link::{ClientSession, Error, Retry};
+use mg_exec::Retry;
+use mg_link::{ClientSession, Error};
 use std::alloc::Global;
 
 /// A command, and how the reply to it is read.

@@ -7,7 +7,8 @@ use crate::operation::Operation;
 use crate::session::read_retry;
 use crate::write_reply::check_written;
 use mg_bson::{Document, RawDocumentBuf};
-use mg_link::{ClientSession, Error, OperationTarget, Retry};
+use mg_exec::Retry;
+use mg_link::{ClientSession, Error, OperationTarget};
 use mg_options::{AggregateOptions, Value};
 use std::alloc::Global;
 
@@ -54,7 +55,7 @@ impl Operation for Aggregate {
 
     ghost use Rattle.std.specs.Prelude.{◌≡◌, None, if◌then◌else◌};
     ghost use Rattle.mg_link.specs.Namespace.{target};
-    ghost use Rattle.mg_link.specs.declared.exec.Retry.TheVariants as retries;
+    ghost use Rattle.mg_exec.specs.declared.exec.Retry.TheVariants as retries;
     ghost use Rattle.mg_options.specs.Fields.{Refuses, fields_in, first_unfit};
     ghost use Rattle.mg_ops.specs.Bodies.{aggregate_body, writes_out};
     ghost use Rattle.mg_ops.specs.Sessions.{read_retry};

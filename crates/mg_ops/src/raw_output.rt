@@ -1,7 +1,8 @@
 //! Replies that are not read.
 use crate::operation::Operation;
 use mg_bson::{Document, RawDocumentBuf};
-use mg_link::{ClientSession, Error, Retry};
+use mg_exec::Retry;
+use mg_link::{ClientSession, Error};
 use std::alloc::Global;
 
 /// An operation whose reply is handed on unread.

@@ -12,7 +12,8 @@ use crate::entry::Entry;
 use crate::operation::Operation;
 use crate::parts::size;
 use mg_bson::{Document, RawDocumentBuf, to_document};
-use mg_link::{ClientSession, Error, Retry, SelectionCriteria};
+use mg_exec::Retry;
+use mg_link::{ClientSession, Error, SelectionCriteria};
 use mg_options::{RunCommandOptions, RunCursorCommandOptions, Value};
 use std::alloc::Global;
 
@@ -88,7 +89,7 @@ impl Operation for RunCommand {
     ghost use Rattle.std.specs.Prelude.{◌≡◌, None, string_bytes};
     ghost use Rattle.mg_bson.specs.Find.{joined};
     ghost use Rattle.mg_bson.specs.Raw.{fields};
-    ghost use Rattle.mg_link.specs.declared.exec.Retry.TheVariants as retries;
+    ghost use Rattle.mg_exec.specs.declared.exec.Retry.TheVariants as retries;
     ghost use Rattle.mg_options.specs.Fields.{Refuses, fields_in, first_unfit};
     ghost use Rattle.mg_ops.specs.Bodies.{run_lines};
 
@@ -147,7 +148,7 @@ impl Operation for RunCursorCommand {
 
     ghost use Rattle.std.specs.Prelude.{◌≡◌, ◌⊎◌, None, string_bytes};
     ghost use Rattle.mg_bson.specs.Find.{joined};
-    ghost use Rattle.mg_link.specs.declared.exec.Retry.TheVariants as retries;
+    ghost use Rattle.mg_exec.specs.declared.exec.Retry.TheVariants as retries;
     ghost use Rattle.mg_options.specs.Fields.{Refuses, fields_in, first_unfit};
     ghost use Rattle.mg_ops.specs.Bodies.{run_lines};
     ghost use Rattle.mg_ops.specs.Cursors.{BreaksIn, OpensWith};

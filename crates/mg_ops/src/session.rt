@@ -6,7 +6,8 @@ ghost use Rattle.mg_ops.specs.Sessions.{in_session, read_retry};
 
 use crate::body::{Part, SessionFields};
 use mg_bson::Document;
-use mg_link::{ClientSession, Error, Retry};
+use mg_exec::Retry;
+use mg_link::{ClientSession, Error};
 use std::alloc::Global;
 
 /// A command that ends with its database, with the fields of its session behind it.

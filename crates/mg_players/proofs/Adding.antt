@@ -3,10 +3,10 @@ use Rattle.std.proofs.Common.{◌≡◌, ◌≤◌, ◌++◌, ◌∷◌, [], Lis
 use Rattle.std.specs.Prelude.{slice_get}
 use Rattle.mg_bson.specs.Tree.{Fields}
 use Rattle.mg_bson.specs.Raw.{fields}
-use Rattle.mg_link.specs.Calls.{Keeps, AddsOnly}
+use Rattle.mg_server.specs.Calls.{Keeps, AddsOnly}
 use Rattle.mg_link.specs.Link.{LogTold}
 use Rattle.mg_link.specs.Log.{Call}
-use Rattle.mg_link.proofs.Owners.{same_some}
+use Rattle.mg_server.proofs.Owners.{same_some}
 use Rattle.mg_ops.specs.Logs.{commands_sent}
 use Rattle.mg_change.specs.Sent.{Sent}
 use Rattle.mg_change.proofs.Such.{AreAll}

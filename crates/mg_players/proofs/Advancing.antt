@@ -49,7 +49,7 @@ use Rattle.mg_players.specs.declared.follow.Stage.TheVariants as stage
 use Rattle.mg_players.specs.declared.player.Player.{Player}
 use Rattle.mg_players.specs.declared.player.Player.TheVariants as player
 use Rattle.mg_script.specs.declared.script.Job.{Job}
-use Rattle.mg_link.proofs.Owners.{same_some}
+use Rattle.mg_server.proofs.Owners.{same_some}
 use Rattle.mg_change.proofs.Resting.{between_holds_none}
 use Rattle.mg_link.proofs.Places.{get_set_other, get_set_same}
 use Rattle.mg_players.proofs.Knowing.{get_length, length_take, map_joined, one_more, take_next}

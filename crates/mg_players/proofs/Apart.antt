@@ -4,7 +4,7 @@ use Rattle.std.specs.Prelude.{slice_get, slice_set, IsSome, is_some, OnErr, ⊤}
 use Rattle.std.proofs.lemmas.Bool.{cases_eq}
 use Rattle.mg_link.specs.Link.{Awaited, LogTold}
 use Rattle.mg_link.specs.declared.error.Error.{Error}
-use Rattle.mg_link.proofs.Owners.{same_some}
+use Rattle.mg_server.proofs.Owners.{same_some}
 use Rattle.mg_link.proofs.Places.{get_set_other, get_set_same}
 use Rattle.mg_players.specs.Puts.{Supply}
 use Rattle.mg_players.specs.Playing.{IsSameFollow, job_ticket}

@@ -3,7 +3,7 @@ use Rattle.std.proofs.Common.{◌≡◌, ℕ, ℤ, List, map, Option, Some, None
 use Rattle.std.specs.Prelude.{codes, option_and_then}
 use Rattle.mg_bson.specs.Tree.{Tree, Fields, Items}
 use Rattle.mg_bson.specs.Find.{as_document, as_int64, get}
-use Rattle.mg_link.specs.Commands.{Batch, batch_by, batch_items, batch_of, documents_in, text_of, token_in}
+use Rattle.mg_server.specs.Commands.{Batch, batch_by, batch_items, batch_of, documents_in, text_of, token_in}
 use Rattle.mg_link.specs.Namespace.{Space, space_of}
 use Rattle.mg_link.specs.declared.error.Error.{Error}
 use Rattle.mg_link.specs.declared.error.Malformed.{Malformed}
@@ -13,7 +13,7 @@ use Rattle.mg_bson.specs.Raw.{fields}
 use Rattle.mg_cursor.specs.Batches.{BreaksBatch, documents_of}
 use Rattle.mg_cursor.proofs.Advancing.{breaks_none}
 use Rattle.mg_cursor.proofs.Batching.{documents_read}
-use Rattle.mg_link.proofs.Owners.{same_some}
+use Rattle.mg_server.proofs.Owners.{same_some}
 use Rattle.mg_ops.specs.Cursors.{BreaksIn}
 
 abbrev cursor_by : Option ℤ → Option Space → Option Items → Option Tree → Result Cursor Malformed

@@ -3,11 +3,11 @@ use Rattle.std.proofs.Common.{◌≡◌, ◌+◌, ◌-◌, ◌<◌, ◌≤◌, �
 use Rattle.std.specs.Prelude.{slice_get}
 use Rattle.mg_bson.specs.Tree.{Fields}
 use Rattle.mg_bson.specs.Raw.{fields}
-use Rattle.mg_link.specs.Calls.{Keeps}
+use Rattle.mg_server.specs.Calls.{Keeps}
 use Rattle.mg_link.specs.Link.{LogTold}
 use Rattle.mg_link.specs.Log.{Call}
-use Rattle.mg_link.proofs.Calls.{keeps_longer}
-use Rattle.mg_link.proofs.Owners.{same_some}
+use Rattle.mg_server.proofs.Calls.{keeps_longer}
+use Rattle.mg_server.proofs.Owners.{same_some}
 use Rattle.mg_link.proofs.Places.{get_some}
 use Rattle.mg_ops.specs.Logs.{AddsJust, commands_sent}
 use Rattle.mg_ops.specs.declared.aggregate.ChangeStreamAggregate.{ChangeStreamAggregate}

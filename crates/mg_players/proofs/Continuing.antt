@@ -3,10 +3,10 @@ use Rattle.std.proofs.Common.{◌≡◌, ℕ, ℤ, List, [], ◌∷◌, map, Opt
 use Rattle.mg_bson.specs.Raw.{fields}
 use Rattle.mg_bson.specs.Tree.{Tree, Fields}
 use Rattle.mg_link.specs.Exec.{Sending, Stage, first, second, ticket_at, unsent}
-use Rattle.mg_link.specs.Follow.{Follow, IsOpen, asking, resting, resuming, starting}
+use Rattle.mg_server.specs.Follow.{Follow, IsOpen, asking, resting, resuming, starting}
 use Rattle.mg_link.specs.Link.{Awaited}
-use Rattle.mg_link.specs.State.{Start, Watch}
-use Rattle.mg_link.specs.Moves.{at_stage}
+use Rattle.mg_server.specs.State.{Start, Watch}
+use Rattle.mg_server.specs.Moves.{at_stage}
 use Rattle.mg_cursor.specs.Client.{ClientCursor, asks, holds, rests}
 use Rattle.mg_cursor.specs.Client as cursors
 use Rattle.mg_cursor.specs.Closing.{closing_ticket_by}

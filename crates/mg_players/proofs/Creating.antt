@@ -5,12 +5,13 @@ use Rattle.mg_bson.specs.Tree.{Fields}
 use Rattle.mg_bson.specs.Raw.{fields}
 use Rattle.mg_bson.specs.Find.{as_array, get}
 use Rattle.mg_bson.specs.Reading.{◌>>=◌}
-use Rattle.mg_link.specs.Commands.{Asked, asked, asked_by, asks_create, asks_delete, asks_drop, asks_indexes, asks_insert, asks_kill, asks_more, asks_other, asks_query, asks_update, asks_watch, documents_in, flag_or, filter_stages, has_only, insert_of, integers_in, kill_of, more_of, or_asks, pipeline_fields, pipeline_query, piped, refuses, space_at, stages_in, start_of, target_of, as_integer, watch_by, watch_from, watch_of, watch_stage_options}
-use Rattle.mg_link.specs.Filter.{Condition}
+use Rattle.mg_link.specs.Numbers.{as_integer}
+use Rattle.mg_server.specs.Commands.{Asked, asked, asked_by, asks_create, asks_delete, asks_drop, asks_indexes, asks_insert, asks_kill, asks_more, asks_other, asks_query, asks_update, asks_watch, documents_in, flag_or, filter_stages, has_only, insert_of, integers_in, kill_of, more_of, or_asks, pipeline_fields, pipeline_query, piped, refuses, space_at, stages_in, start_of, target_of, watch_by, watch_from, watch_of, watch_stage_options}
+use Rattle.mg_server.specs.Filter.{Condition}
 use Rattle.mg_link.specs.Namespace.{Space, Target, target}
-use Rattle.mg_link.specs.Prompt.{AnswersAtOnce}
-use Rattle.mg_link.specs.Query.{Query}
-use Rattle.mg_link.specs.State.{Start, State}
+use Rattle.mg_server.specs.Prompt.{AnswersAtOnce}
+use Rattle.mg_server.specs.Query.{Query}
+use Rattle.mg_server.specs.State.{Start, State}
 use Rattle.mg_options.specs.Fields.{fields_in}
 use Rattle.mg_link.specs.Session.{Session}
 use Rattle.mg_ops.specs.Bodies.{watch_body, insert_command}

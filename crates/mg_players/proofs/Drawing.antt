@@ -4,7 +4,7 @@ use Rattle.std.specs.Prelude.{IfOk, slice_get, slice_set, nat_eq}
 use Rattle.std.proofs.lemmas.Bool.{cases_Bool, cases_eq, eq-eqb, ne_eqb}
 use Rattle.std.proofs.lemmas.List.{take_all}
 use Rattle.mg_bson.specs.Tree.{Fields}
-use Rattle.mg_link.proofs.Owners.{same_some}
+use Rattle.mg_server.proofs.Owners.{same_some}
 use Rattle.mg_link.proofs.Places.{get_within, get_set_other, get_set_same, get_some}
 use Rattle.mg_link.specs.declared.error.Error.{Error}
 use Rattle.mg_script.specs.Plan as plan

@@ -8,7 +8,7 @@ use Rattle.mg_link.specs.Namespace.{Space}
 use Rattle.mg_link.specs.Session.{Session}
 use Rattle.mg_link.specs.declared.action.Step.{Step}
 use Rattle.mg_link.specs.declared.action.Step.TheVariants as step
-use Rattle.mg_link.proofs.Execs.{runs_of}
+use Rattle.mg_exec.proofs.Execs.{runs_of}
 use Rattle.mg_ops.specs.Commands.{kill_command}
 use Rattle.mg_cursor.specs.Client.{at_rest}
 use Rattle.mg_cursor.specs.Client as cursors

@@ -1,10 +1,10 @@
 -- Where a get asked for more chunks, it did so in a later log too.
 use Rattle.std.proofs.Common.{◌⊎◌, ◌<◌, ◌≤◌, ◌++◌, ◌∷◌, [], ℕ, List, length, sym, ◌∙◌, subst, inl, inr, append-nil, arith}
 use Rattle.std.specs.List.{concat}
-use Rattle.mg_link.specs.Calls.{AddsOnly, Keeps}
+use Rattle.mg_server.specs.Calls.{AddsOnly, Keeps}
 use Rattle.mg_link.specs.Log.{Call}
-use Rattle.mg_link.specs.Owner.{IsOf}
-use Rattle.mg_link.proofs.Calls.{keeps_longer}
+use Rattle.mg_server.specs.Owner.{IsOf}
+use Rattle.mg_server.proofs.Calls.{keeps_longer}
 use Rattle.mg_link.proofs.Places.{get_within}
 use Rattle.mg_players.specs.Asking.{AllAskOn, AsksOnBy}
 use Rattle.mg_players.specs.Causes.{AreInLog, sent_since}

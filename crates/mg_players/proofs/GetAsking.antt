@@ -2,7 +2,7 @@
 use Rattle.std.proofs.Common.{◌≡◌, ◌≢◌, ◌<◌, ◌≤◌, ℕ, zero, suc, ℤ, true, List, [], ◌∷◌, length, Option, Some, None, refl, sym, ap, ◌∙◌, subst, arith}
 use Rattle.mg_bson.specs.Raw.{fields}
 use Rattle.mg_bson.specs.Tree.{Fields, Tree}
-use Rattle.mg_link.specs.Calls.{AddsOnly, Flies, Keeps, past_of}
+use Rattle.mg_server.specs.Calls.{AddsOnly, Flies, Keeps, past_of}
 use Rattle.mg_link.specs.Errors as errors
 use Rattle.mg_link.specs.Exec.{Runs, Sending, Stage, unsent}
 use Rattle.mg_link.specs.Link.{Awaited, LogTold, SendsNothing}
@@ -10,9 +10,9 @@ use Rattle.mg_link.specs.Log.{Call, reply}
 use Rattle.mg_link.specs.declared.action.Step.{Step}
 use Rattle.mg_link.specs.declared.action.Step.TheVariants as came
 use Rattle.mg_link.specs.declared.error.ErrorKind.TheVariants as kind
-use Rattle.mg_link.proofs.Calls.{request_ran, success_ran}
-use Rattle.mg_link.proofs.Owners.{same_some}
-use Rattle.mg_link.proofs.Pasts.{heard_by}
+use Rattle.mg_server.proofs.Calls.{request_ran, success_ran}
+use Rattle.mg_server.proofs.Owners.{same_some}
+use Rattle.mg_server.proofs.Pasts.{heard_by}
 use Rattle.mg_options.specs.Fields.{Line, fields_in}
 use Rattle.mg_cursor.specs.Client.{new_client}
 use Rattle.mg_change.specs.Sent.{Falling, resuming_places}

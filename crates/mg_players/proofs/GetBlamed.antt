@@ -5,22 +5,22 @@ use Rattle.mg_bson.specs.Find.{as_document, as_int64, get}
 use Rattle.mg_bson.specs.Raw.{fields}
 use Rattle.mg_bson.specs.Reading.{doc}
 use Rattle.mg_bson.specs.Tree.{Fields, Items, Tree}
-use Rattle.mg_link.specs.Calls.{HeardBy, IsOwn, Past, RequestFails, out_of_memory, was_broken, was_lost, was_refused}
-use Rattle.mg_link.specs.Commands.{Batch, batch_items, batch_of, documents_in, text_of, token_in}
+use Rattle.mg_server.specs.Calls.{HeardBy, IsOwn, Past, RequestFails, out_of_memory, was_broken, was_lost, was_refused}
+use Rattle.mg_server.specs.Commands.{Batch, batch_items, batch_of, documents_in, text_of, token_in}
 use Rattle.mg_link.specs.Errors.{plain}
 use Rattle.mg_link.specs.Exec.{FailsAs, FailsByReply, IsSuccess}
 use Rattle.mg_link.specs.Failures.{refusal_by}
-use Rattle.mg_link.specs.Files.{Bucket, chunks_space, file_of, files_space, has_value}
-use Rattle.mg_link.specs.Filter.{matches}
-use Rattle.mg_link.specs.History.{IsLegal, Step, state_of, step_after}
+use Rattle.mg_server.specs.Files.{Bucket, chunks_space, file_of, files_space, has_value}
+use Rattle.mg_server.specs.Filter.{matches}
+use Rattle.mg_server.specs.History.{IsLegal, Step, state_of, step_after}
 use Rattle.mg_link.specs.Log.{Call, reply}
 use Rattle.mg_link.specs.Namespace.{Space, space_of}
-use Rattle.mg_link.specs.Owner.{IsOf}
-use Rattle.mg_link.specs.Query.{Query, result}
+use Rattle.mg_server.specs.Owner.{IsOf}
+use Rattle.mg_server.specs.Query.{Query, result}
 use Rattle.mg_link.specs.Reply.{Refusal, refusal_of, verdict_of}
-use Rattle.mg_link.specs.Standing.{Stands}
-use Rattle.mg_link.specs.State.{State}
-use Rattle.mg_link.specs.Step.{documents_of}
+use Rattle.mg_server.specs.Standing.{Stands}
+use Rattle.mg_server.specs.State.{State}
+use Rattle.mg_server.specs.Step.{documents_of}
 use Rattle.mg_link.specs.declared.error.BadArgument.{BadArgument}
 use Rattle.mg_link.specs.declared.error.BadArgument.TheVariants as argument
 use Rattle.mg_link.specs.declared.error.Error.{Error}
@@ -32,7 +32,7 @@ use Rattle.mg_link.specs.declared.error.Malformed.{Malformed}
 use Rattle.mg_link.specs.declared.error.Malformed.TheVariants as malformed
 use Rattle.mg_link.specs.declared.reply.Verdict.{Verdict}
 use Rattle.mg_link.specs.declared.reply.Verdict.TheVariants as verdict
-use Rattle.mg_link.proofs.Owners.{same_some, state_one}
+use Rattle.mg_server.proofs.Owners.{same_some, state_one}
 use Rattle.mg_link.proofs.Places.{take_more}
 use Rattle.mg_options.specs.Fields.{Line, Refuses, fields_in, first_unfit}
 use Rattle.mg_ops.specs.Cursors.{BreaksIn, Cursor, cursor_in, cursor_of, found, ◌>>=◌}

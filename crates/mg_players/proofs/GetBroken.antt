@@ -5,17 +5,18 @@ use Rattle.mg_bson.specs.Find.{as_document}
 use Rattle.mg_bson.specs.Raw.{fields}
 use Rattle.mg_bson.specs.Reading.{doc}
 use Rattle.mg_bson.specs.Tree.{Fields, no_fields}
-use Rattle.mg_link.specs.Calls.{HeardBy, Past, RequestFails, out_of_memory, was_broken, was_lost, was_refused}
-use Rattle.mg_link.specs.Commands.{as_database, batch_of, documents_in}
+use Rattle.mg_server.specs.Calls.{HeardBy, Past, RequestFails, out_of_memory, was_broken, was_lost, was_refused}
+use Rattle.mg_link.specs.Namespace.{as_database}
+use Rattle.mg_server.specs.Commands.{batch_of, documents_in}
 use Rattle.mg_link.specs.Errors.{plain}
 use Rattle.mg_link.specs.Exec.{FailsAs, FailsByReply, IsSuccess}
 use Rattle.mg_link.specs.Failures.{refusal_by}
-use Rattle.mg_link.specs.Files.{chunks_space, file_of, files_space}
-use Rattle.mg_link.specs.History.{IsLegal, Step, state_of}
+use Rattle.mg_server.specs.Files.{chunks_space, file_of, files_space}
+use Rattle.mg_server.specs.History.{IsLegal, Step, state_of}
 use Rattle.mg_link.specs.Log.{Call, reply}
 use Rattle.mg_link.specs.Reply.{Refusal, refusal_of, verdict_of}
 use Rattle.mg_link.specs.Session.{Session}
-use Rattle.mg_link.specs.Standing.{Stands}
+use Rattle.mg_server.specs.Standing.{Stands}
 use Rattle.mg_link.specs.declared.error.BadArgument.{BadArgument}
 use Rattle.mg_link.specs.declared.error.BadArgument.TheVariants as argument
 use Rattle.mg_link.specs.declared.error.Error.{Error}
@@ -25,8 +26,8 @@ use Rattle.mg_link.specs.declared.error.GridFsErrorKind.TheVariants as grid
 use Rattle.mg_link.specs.declared.error.GridFsFileIdentifier.TheVariants as identifier
 use Rattle.mg_link.specs.declared.reply.Verdict.{Verdict}
 use Rattle.mg_link.specs.declared.reply.Verdict.TheVariants as verdict
-use Rattle.mg_link.proofs.Owners.{same_some}
-use Rattle.mg_link.proofs.Pasts.{heard_by}
+use Rattle.mg_server.proofs.Owners.{same_some}
+use Rattle.mg_server.proofs.Pasts.{heard_by}
 use Rattle.mg_options.specs.Fields.{Line, Refuses, first_unfit}
 use Rattle.mg_ops.specs.Naming.{IsNamed}
 use Rattle.mg_cursor.specs.Causes.{TellsNoCursor}

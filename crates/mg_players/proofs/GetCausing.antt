@@ -2,14 +2,14 @@
 use Rattle.std.proofs.Common.{◌≡◌, ◌≤◌, ◌+◌, ◌-◌, ◌*◌, ◌++◌, ◌∷◌, [], ℕ, zero, suc, ℤ, false, true, List, length, Option, Some, None, refl, sym, ap, ◌∙◌, subst, inl, inr, arith}
 use Rattle.std.specs.List.{concat}
 use Rattle.std.specs.Prelude.{IsSome, slice_get}
-use Rattle.mg_link.specs.Calls.{HeardBy, IsAwaited, Past}
+use Rattle.mg_server.specs.Calls.{HeardBy, IsAwaited, Past}
 use Rattle.mg_link.specs.Exec as exec
 use Rattle.mg_link.specs.Exec.{Stage}
 use Rattle.mg_link.specs.Link.{Awaited}
 use Rattle.mg_link.specs.Log.{Call, reply}
-use Rattle.mg_link.specs.Owner.{IsOf}
+use Rattle.mg_server.specs.Owner.{IsOf}
 use Rattle.mg_link.specs.declared.error.Error.{Error}
-use Rattle.mg_link.proofs.Calls.{awaited_by, none_held}
+use Rattle.mg_server.proofs.Calls.{awaited_by, none_held}
 use Rattle.mg_options.specs.Fields.{Line, fields_in}
 use Rattle.mg_bson.specs.Tree.{Fields, Tree}
 use Rattle.mg_link.specs.Session.{Session}

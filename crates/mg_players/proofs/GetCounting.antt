@@ -4,12 +4,12 @@ use Rattle.std.specs.Prelude.{option_and_then}
 use Rattle.mg_bson.specs.Raw.{IsDocument, fields, items}
 use Rattle.mg_bson.specs.Spans.{documents_inside}
 use Rattle.mg_bson.specs.Tree.{Fields, Items, no_items}
-use Rattle.mg_link.specs.Calls.{Grows, Past}
-use Rattle.mg_link.specs.Commands.{documents_in}
+use Rattle.mg_server.specs.Calls.{Grows, Past}
+use Rattle.mg_server.specs.Commands.{documents_in}
 use Rattle.mg_link.specs.Exec.{Sending}
 use Rattle.mg_link.specs.Link.{Awaited}
 use Rattle.mg_link.specs.declared.error.Malformed.{Malformed}
-use Rattle.mg_link.proofs.Calls.{keeps_longer}
+use Rattle.mg_server.proofs.Calls.{keeps_longer}
 use Rattle.mg_link.proofs.Places.{get_within}
 use Rattle.mg_ops.specs.Cursors.{Cursor, batch_at, cursor_of}
 use Rattle.mg_ops.proofs.Reading.{items_read}

@@ -3,14 +3,15 @@ use Rattle.std.proofs.Common.{◌≡◌, ◌<◌, ◌≤◌, ◌++◌, ◌+◌, 
 use Rattle.std.specs.Prelude.{slice_get}
 use Rattle.mg_bson.specs.Find.{as_document}
 use Rattle.mg_bson.specs.Tree.{Fields, Items, Tree, item, no_items}
-use Rattle.mg_link.specs.Commands.{documents_in}
-use Rattle.mg_link.specs.Files.{AreChunks, Bucket, File, IsWhole, LeavesFile, chunked, file_of}
-use Rattle.mg_link.specs.History.{IsLegal, Step, state_of}
+use Rattle.mg_server.specs.Commands.{documents_in}
+use Rattle.mg_link.specs.Chunks.{chunked}
+use Rattle.mg_server.specs.Files.{AreChunks, Bucket, File, IsWhole, LeavesFile, file_of}
+use Rattle.mg_server.specs.History.{IsLegal, Step, state_of}
 use Rattle.mg_link.specs.Log.{Call}
-use Rattle.mg_link.specs.Standing.{Stands}
+use Rattle.mg_server.specs.Standing.{Stands}
 use Rattle.mg_link.specs.declared.error.Error.{Error}
 use Rattle.mg_link.specs.declared.error.Malformed.TheVariants as malformed
-use Rattle.mg_link.proofs.Files.{quiet_stays}
+use Rattle.mg_server.proofs.Files.{quiet_stays}
 use Rattle.mg_link.proofs.Places.{get_seam, get_within}
 use Rattle.mg_records.specs.FileRecords.{FileRecord, chunk_count, chunk_count_of, chunk_length, file_record_of}
 use Rattle.mg_gridfs.specs.Downloaded.{AreReceived}

@@ -2,15 +2,15 @@
 use Rattle.std.proofs.Common.{◌≡◌, ◌⊎◌, ◌++◌, ℕ, suc, ℤ, Bool, true, false, List, [], take, Option, Some, refl, sym, ap, ◌∙◌, subst, inl, inr, append-nil, append_assoc}
 use Rattle.std.specs.Prelude.{slice_get}
 use Rattle.mg_bson.specs.Tree.{Fields}
-use Rattle.mg_link.specs.Calls.{Keeps}
-use Rattle.mg_link.specs.Commands.{asked, asks_query}
-use Rattle.mg_link.specs.Files.{Bucket, chunks_space, file_of}
-use Rattle.mg_link.specs.History.{IsLegal, Step, state_of}
+use Rattle.mg_server.specs.Calls.{Keeps}
+use Rattle.mg_server.specs.Commands.{asked, asks_query}
+use Rattle.mg_server.specs.Files.{Bucket, chunks_space, file_of}
+use Rattle.mg_server.specs.History.{IsLegal, Step, state_of}
 use Rattle.mg_link.specs.Link.{Awaited, LogTold}
 use Rattle.mg_link.specs.Log.{Call}
-use Rattle.mg_link.specs.Query.{Query}
-use Rattle.mg_link.specs.Standing.{Stands}
-use Rattle.mg_link.proofs.Owners.{same_some}
+use Rattle.mg_server.specs.Query.{Query}
+use Rattle.mg_server.specs.Standing.{Stands}
+use Rattle.mg_server.proofs.Owners.{same_some}
 use Rattle.mg_cursor.specs.Client.{ClientCursor}
 use Rattle.mg_cursor.specs.Reading.{in_reply, reader_in}
 use Rattle.mg_records.specs.FileRecords.{FileRecord}

@@ -4,25 +4,25 @@ use Rattle.std.specs.List.{concat}
 use Rattle.std.proofs.lemmas.List.Folds.{concat-append}
 use Rattle.mg_bson.specs.Raw.{fields, items}
 use Rattle.mg_bson.specs.Tree.{Fields, Items, no_items}
-use Rattle.mg_link.specs.Calls.{Grows, Keeps, Past, past_of}
-use Rattle.mg_link.specs.Commands.{Batch, batch_of}
+use Rattle.mg_server.specs.Calls.{Grows, Keeps, Past, past_of}
+use Rattle.mg_server.specs.Commands.{Batch, batch_of}
 use Rattle.mg_link.specs.Errors.{plain}
 use Rattle.mg_link.specs.Exec.{Sending}
-use Rattle.mg_link.specs.Files.{chunks_space}
-use Rattle.mg_link.specs.History.{IsLegal, Step, state_of}
+use Rattle.mg_server.specs.Files.{chunks_space}
+use Rattle.mg_server.specs.History.{IsLegal, Step, state_of}
 use Rattle.mg_link.specs.Link.{Awaited, LogTold}
 use Rattle.mg_link.specs.Log.{Call}
-use Rattle.mg_link.specs.Owner.{Passes}
-use Rattle.mg_link.specs.Query.{Query}
-use Rattle.mg_link.specs.Reader.{KnowsRead, Reader, owner_of_reader}
-use Rattle.mg_link.specs.Standing.{Stands}
+use Rattle.mg_server.specs.Owner.{Passes}
+use Rattle.mg_server.specs.Query.{Query}
+use Rattle.mg_server.specs.Reader.{KnowsRead, Reader, owner_of_reader}
+use Rattle.mg_server.specs.Standing.{Stands}
 use Rattle.mg_link.specs.declared.action.Step.{Step as Polled}
 use Rattle.mg_link.specs.declared.action.Step.TheVariants as came
 use Rattle.mg_link.specs.declared.error.Error.{Error}
 use Rattle.mg_link.specs.declared.error.ErrorKind.TheVariants as kind
-use Rattle.mg_link.proofs.Calls.{keeps_longer, log_grows}
-use Rattle.mg_link.proofs.Owners.{same_some}
-use Rattle.mg_link.proofs.Pasts.{heard_reply}
+use Rattle.mg_server.proofs.Calls.{keeps_longer, log_grows}
+use Rattle.mg_server.proofs.Owners.{same_some}
+use Rattle.mg_server.proofs.Pasts.{heard_reply}
 use Rattle.mg_ops.specs.Cursors.{Cursor, batch_at, cursor_of}
 use Rattle.mg_ops.proofs.Asking.{asks_for_more}
 use Rattle.mg_ops.proofs.Replying.{same_id}

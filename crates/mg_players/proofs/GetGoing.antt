@@ -11,7 +11,7 @@ use Rattle.mg_players.specs.declared.get.GetPlayer.{GetPlayer}
 use Rattle.mg_players.specs.declared.get.GetStage.{GetStage}
 use Rattle.mg_players.specs.declared.get.GetStage.TheVariants as gets
 use Rattle.mg_script.specs.declared.outcome.Ended.{Ended}
-use Rattle.mg_link.proofs.Apart.{passes_same}
+use Rattle.mg_server.proofs.Apart.{passes_same}
 use Rattle.mg_link.proofs.Onward.{tickets_same}
 use Rattle.mg_players.proofs.GetKnowing.{holds_get}
 use Rattle.mg_players.proofs.JobTelling.{get_number, get_turn, quiet_turn, tells_same_job}

@@ -6,14 +6,14 @@ use Rattle.std.proofs.lemmas.Bool.{eq-eqb}
 use Rattle.mg_bson.specs.Find.{as_binary, as_date_time, as_document, as_int32, as_string, get}
 use Rattle.mg_bson.specs.Reading.{◌>>=◌}
 use Rattle.mg_bson.specs.Tree.{Fields, Tree}
-use Rattle.mg_link.specs.Commands.{as_count, as_integer, count_of}
-use Rattle.mg_link.specs.Files.{AreChunks, Bucket, IsChunk, IsWhole, file_of, files_space, has_value, number_at}
-use Rattle.mg_link.specs.Filter.{meets}
-use Rattle.mg_link.specs.State.{State}
-use Rattle.mg_link.specs.Step.{documents_of}
+use Rattle.mg_link.specs.Numbers.{as_count, as_integer, count_of}
+use Rattle.mg_server.specs.Files.{AreChunks, Bucket, IsChunk, IsWhole, file_of, files_space, has_value, number_at}
+use Rattle.mg_server.specs.Filter.{meets}
+use Rattle.mg_server.specs.State.{State}
+use Rattle.mg_server.specs.Step.{documents_of}
 use Rattle.mg_link.specs.declared.error.Malformed.{Malformed}
 use Rattle.mg_link.specs.declared.error.Malformed.TheVariants as malformed
-use Rattle.mg_link.proofs.Owners.{same_some}
+use Rattle.mg_server.proofs.Owners.{same_some}
 use Rattle.mg_records.specs.FileRecords.{FileRecord, Numbers, chunk_count, chunk_count_of, chunk_length, chunk_length_of, counted, file_fields, file_numbers, file_record_of, small_count, where_counted, with_chunks}
 use Rattle.mg_records.specs.Readings.{any_value, needed, optional}
 use Rattle.mg_gridfs.specs.Downloads.{and_then, data_of, judged, missing_chunk, needed_as, numbered_as, of_subtype_0, sized_as, wrong_size}

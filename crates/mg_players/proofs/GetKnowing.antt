@@ -2,10 +2,10 @@
 use Rattle.std.proofs.Common.{◌≡◌, ℕ, List, [], Option, None, refl, sym, ap, ◌∙◌, subst}
 use Rattle.mg_link.specs.Link.{Awaited}
 use Rattle.mg_link.specs.Log.{Call}
-use Rattle.mg_link.specs.Owner.{Holds, Onward, Owner, nobody}
-use Rattle.mg_link.proofs.Apart.{holds_nobody}
+use Rattle.mg_server.specs.Owner.{Holds, Onward, Owner, nobody}
+use Rattle.mg_server.proofs.Apart.{holds_nobody}
 use Rattle.mg_link.specs.Exec.{Stage, first, second, ticket_at, unsent}
-use Rattle.mg_link.specs.Reader.{finder, finder_at}
+use Rattle.mg_server.specs.Reader.{finder, finder_at}
 use Rattle.mg_gridfs.specs.Downloaded.{doing_owner, looking_owner}
 use Rattle.mg_gridfs.specs.Downloads as downloads
 use Rattle.mg_gridfs.specs.Downloads.{Doing, ticket_by}

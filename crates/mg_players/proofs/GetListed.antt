@@ -2,20 +2,20 @@
 use Rattle.std.proofs.Common.{◌≡◌, ◌⊎◌, ◌≤◌, ℕ, ℤ, true, List, length, take, Some, None, refl, sym, ap, ◌∙◌, subst, inl, inr, arith}
 use Rattle.mg_bson.specs.Raw.{fields}
 use Rattle.mg_bson.specs.Tree.{Tree}
-use Rattle.mg_link.specs.Calls.{Came, Flies, HeardBy, Past, past_of}
-use Rattle.mg_link.specs.Commands.{batch_of}
+use Rattle.mg_server.specs.Calls.{Came, Flies, HeardBy, Past, past_of}
+use Rattle.mg_server.specs.Commands.{batch_of}
 use Rattle.mg_link.specs.Exec.{IsSuccess, Runs, Sending, Stage, unsent}
-use Rattle.mg_link.specs.Files.{chunks_space}
-use Rattle.mg_link.specs.History.{state_of, told_at}
+use Rattle.mg_server.specs.Files.{chunks_space}
+use Rattle.mg_server.specs.History.{state_of, told_at}
 use Rattle.mg_link.specs.Link.{Awaited, LogTold, SendsNothing}
 use Rattle.mg_link.specs.Log.{Call, reply}
 use Rattle.mg_link.specs.Namespace.{space}
-use Rattle.mg_link.specs.Standing.{OpensId}
+use Rattle.mg_server.specs.Standing.{OpensId}
 use Rattle.mg_link.specs.declared.action.Step.{Step as Polled}
 use Rattle.mg_link.specs.declared.action.Step.TheVariants as came
-use Rattle.mg_link.proofs.Calls.{request_ran, success_ran}
-use Rattle.mg_link.proofs.Owners.{same_some}
-use Rattle.mg_link.proofs.Pasts.{heard_by}
+use Rattle.mg_server.proofs.Calls.{request_ran, success_ran}
+use Rattle.mg_server.proofs.Owners.{same_some}
+use Rattle.mg_server.proofs.Pasts.{heard_by}
 use Rattle.mg_options.specs.Fields.{Line, fields_in}
 use Rattle.mg_ops.specs.Cursors.{Cursor, OpensWith}
 use Rattle.mg_ops.specs.Naming.{IsNamed}

@@ -3,22 +3,22 @@ use Rattle.std.proofs.Common.{◌≡◌, ◌++◌, ◌&&◌, ℕ, suc, pos, Bool
 use Rattle.std.specs.Prelude.{codes, option_and_then, slice_get, unwrap_or}
 use Rattle.mg_bson.specs.Raw.{fields}
 use Rattle.mg_bson.specs.Tree.{Fields, Items, Tree}
-use Rattle.mg_link.specs.Calls.{Past}
-use Rattle.mg_link.specs.Commands.{Batch, asked, asks_query, batch_of, documents_in}
+use Rattle.mg_server.specs.Calls.{Past}
+use Rattle.mg_server.specs.Commands.{Batch, asked, asks_query, batch_of, documents_in}
 use Rattle.mg_link.specs.Exec.{IsSuccess}
-use Rattle.mg_link.specs.Files.{Bucket, by_number, chunks_space, file_of, has_value, with_value}
-use Rattle.mg_link.specs.Filter.{Condition, matches, meets}
-use Rattle.mg_link.specs.History.{IsLegal, Step, state_of}
+use Rattle.mg_server.specs.Files.{Bucket, by_number, chunks_space, file_of, has_value, with_value}
+use Rattle.mg_server.specs.Filter.{Condition, matches, meets}
+use Rattle.mg_server.specs.History.{IsLegal, Step, state_of}
 use Rattle.mg_link.specs.Log.{Call}
 use Rattle.mg_link.specs.Namespace.{Space}
-use Rattle.mg_link.specs.Query.{Query, can_sort, result, sorted, through}
-use Rattle.mg_link.specs.Reader.{KnowsRead, Reader}
-use Rattle.mg_link.specs.Standing.{Stands}
-use Rattle.mg_link.specs.State.{State}
-use Rattle.mg_link.specs.Step.{documents_of}
+use Rattle.mg_server.specs.Query.{Query, can_sort, result, sorted, through}
+use Rattle.mg_server.specs.Reader.{KnowsRead, Reader}
+use Rattle.mg_server.specs.Standing.{Stands}
+use Rattle.mg_server.specs.State.{State}
+use Rattle.mg_server.specs.Step.{documents_of}
 use Rattle.mg_link.specs.declared.error.Error.{Error}
 use Rattle.mg_link.specs.declared.error.Malformed.{Malformed}
-use Rattle.mg_link.proofs.Owners.{same_some}
+use Rattle.mg_server.proofs.Owners.{same_some}
 use Rattle.mg_ops.specs.Cursors.{batch_at}
 use Rattle.mg_ops.specs.Naming.{IsNamed}
 use Rattle.mg_ops.proofs.Asking.{asks_for_more}

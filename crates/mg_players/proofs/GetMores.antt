@@ -1,16 +1,16 @@
 -- By which cursor the polls of a get's reads ask for more: the one that the newest reply told.
 use Rattle.std.proofs.Common.{◌≡◌, ◌⊎◌, ◌<◌, ◌≤◌, ℕ, zero, suc, ℤ, Bool, true, false, List, length, Some, None, refl, sym, ap, ◌∙◌, subst, inl, inr, arith}
 use Rattle.mg_bson.specs.Raw.{fields}
-use Rattle.mg_link.specs.Calls.{Keeps}
+use Rattle.mg_server.specs.Calls.{Keeps}
 use Rattle.mg_link.specs.Exec.{Sending, Stage, first, second, unsent}
 use Rattle.mg_link.specs.Link.{Awaited, LogTold, SendsNothing}
 use Rattle.mg_link.specs.Log.{Call}
-use Rattle.mg_link.specs.Owner.{IsOf}
+use Rattle.mg_server.specs.Owner.{IsOf}
 use Rattle.mg_link.specs.declared.action.Step.{Step}
 use Rattle.mg_link.specs.declared.action.Step.TheVariants as came
-use Rattle.mg_link.proofs.Calls.{keeps_longer, same_keeps}
-use Rattle.mg_link.proofs.Execs.{runs_of}
-use Rattle.mg_link.proofs.Owners.{same_some}
+use Rattle.mg_server.proofs.Calls.{keeps_longer, same_keeps}
+use Rattle.mg_exec.proofs.Execs.{runs_of}
+use Rattle.mg_server.proofs.Owners.{same_some}
 use Rattle.mg_link.proofs.Places.{get_within}
 use Rattle.mg_ops.specs.Cursors.{next_command}
 use Rattle.mg_cursor.specs.Client as client

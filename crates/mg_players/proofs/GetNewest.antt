@@ -3,20 +3,20 @@ use Rattle.std.proofs.Common.{◌≡◌, ◌⊎◌, ◌<◌, ◌≤◌, ◌++◌
 use Rattle.std.specs.Prelude.{slice_get}
 use Rattle.mg_bson.specs.Raw.{fields}
 use Rattle.mg_bson.specs.Tree.{Tree}
-use Rattle.mg_link.specs.Calls.{Keeps}
+use Rattle.mg_server.specs.Calls.{Keeps}
 use Rattle.mg_link.specs.Errors as errors
 use Rattle.mg_link.specs.Exec.{Attempt, AttemptGives, Begins, GoesOn, IsSuccess, Once, Runs, Sending, Stage, Tries, Twice, answered, first, holding, is_repeated, not_sent, second, ticket_at, unsent, waits}
 use Rattle.mg_link.specs.Link.{Awaited, LogTold, SendsNothing}
 use Rattle.mg_link.specs.Log.{Call, Sight, reply, see, waiting}
 use Rattle.mg_link.specs.Namespace.{space}
-use Rattle.mg_link.specs.Owner.{IsOf}
+use Rattle.mg_server.specs.Owner.{IsOf}
 use Rattle.mg_link.specs.declared.action.Step.{Step}
 use Rattle.mg_link.specs.declared.action.Step.TheVariants as came
 use Rattle.mg_link.specs.declared.error.ErrorKind.TheVariants as kind
-use Rattle.mg_link.proofs.Calls.{keeps_longer, keeps_on, same_keeps, see_keeps}
+use Rattle.mg_server.proofs.Calls.{keeps_longer, keeps_on, same_keeps, see_keeps}
 use Rattle.mg_link.proofs.Outs.{length-see}
-use Rattle.mg_link.proofs.Owners.{same_some, see_here}
-use Rattle.mg_link.proofs.Pasts.{not_waiting}
+use Rattle.mg_server.proofs.Owners.{same_some, see_here}
+use Rattle.mg_server.proofs.Pasts.{not_waiting}
 use Rattle.mg_link.proofs.Places.{get_front, get_seam}
 use Rattle.mg_ops.specs.Cursors.{OpensWith}
 use Rattle.mg_ops.specs.declared.cursor_reply.CursorSpecification.{CursorSpecification}

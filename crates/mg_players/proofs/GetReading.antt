@@ -1,17 +1,17 @@
 -- Why a read of a get fails goes on to hold in a later log, and so does how its cursor stands.
 use Rattle.std.proofs.Common.{◌≡◌, ◌≤◌, ◌++◌, ℕ, suc, ℤ, pos, List, length, take, refl, sym, ap, ◌∙◌, subst, inl, inr, arith}
 use Rattle.std.proofs.lemmas.List.{take-append-le}
-use Rattle.mg_link.specs.Calls.{Grows, Past, past_of}
-use Rattle.mg_link.specs.Commands.{asked}
-use Rattle.mg_link.specs.Files.{Bucket, file_of}
-use Rattle.mg_link.specs.History.{Step, state_of, step_after, told_at}
+use Rattle.mg_server.specs.Calls.{Grows, Past, past_of}
+use Rattle.mg_server.specs.Commands.{asked}
+use Rattle.mg_server.specs.Files.{Bucket, file_of}
+use Rattle.mg_server.specs.History.{Step, state_of, step_after, told_at}
 use Rattle.mg_link.specs.Log.{Call}
-use Rattle.mg_link.specs.Owner.{IsOf, Onward, nobody}
-use Rattle.mg_link.specs.Prompt.{AnswersAtOnce, IsPrompt, MeetsConcern}
-use Rattle.mg_link.specs.State.{State}
+use Rattle.mg_server.specs.Owner.{IsOf, Onward, nobody}
+use Rattle.mg_server.specs.Prompt.{AnswersAtOnce, IsPrompt, MeetsConcern}
+use Rattle.mg_server.specs.State.{State}
 use Rattle.mg_link.specs.declared.error.Error.{Error}
-use Rattle.mg_link.proofs.Calls.{same_keeps}
-use Rattle.mg_link.proofs.Pasts.{heard_reply}
+use Rattle.mg_server.proofs.Calls.{same_keeps}
+use Rattle.mg_server.proofs.Pasts.{heard_reply}
 use Rattle.mg_link.proofs.Places.{get_front, get_within}
 use Rattle.mg_cursor.specs.Client.{ClientCursor}
 use Rattle.mg_cursor.proofs.SeekCaused.{fails_grow}

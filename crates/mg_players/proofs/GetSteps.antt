@@ -6,20 +6,20 @@ use Rattle.std.proofs.lemmas.Bool.{cases_Bool}
 use Rattle.std.proofs.lemmas.Bool.Decides.{Decides-int_eq}
 use Rattle.mg_bson.specs.Raw.{fields}
 use Rattle.mg_bson.specs.Tree.{Fields, Tree}
-use Rattle.mg_link.specs.Calls.{HeardBy, Past}
-use Rattle.mg_link.specs.Commands.{Asked, Batch, Told, asked, asks_more, asks_query, batch_of, garbled, gave_by, opened, opened_by, time_in, told_by}
+use Rattle.mg_server.specs.Calls.{HeardBy, Past}
+use Rattle.mg_server.specs.Commands.{Asked, Batch, Told, asked, asks_more, asks_query, batch_of, garbled, gave_by, opened, opened_by, time_in, told_by}
 use Rattle.mg_link.specs.Exec.{IsSuccess}
-use Rattle.mg_link.specs.History.{IsLegal, Step, state_of, step_after, told_at}
+use Rattle.mg_server.specs.History.{IsLegal, Step, state_of, step_after, told_at}
 use Rattle.mg_link.specs.Log.{Call, Sight, reply}
 use Rattle.mg_link.specs.Namespace.{Space}
-use Rattle.mg_link.specs.Prompt.{AnswersAtOnce, HoldsNothingBack, IsPrompt}
-use Rattle.mg_link.specs.Query.{Query, result}
-use Rattle.mg_link.specs.Standing.{OpensId, SeenFits, Stands}
-use Rattle.mg_link.specs.State.{Cursor, State, give, put_cursor, query, watching}
-use Rattle.mg_link.specs.Step.{MayGoOn, MayGoThrough, MayTell, effect, grown, queried_at}
+use Rattle.mg_server.specs.Prompt.{AnswersAtOnce, HoldsNothingBack, IsPrompt}
+use Rattle.mg_server.specs.Query.{Query, result}
+use Rattle.mg_server.specs.Standing.{OpensId, SeenFits, Stands}
+use Rattle.mg_server.specs.State.{Cursor, State, give, put_cursor, query, watching}
+use Rattle.mg_server.specs.Step.{MayGoOn, MayGoThrough, MayTell, effect, grown, queried_at}
 use Rattle.mg_link.specs.declared.reply.Verdict.TheVariants as verdict
-use Rattle.mg_link.proofs.Heard.{giving_heard, more_spoiled, told_heard}
-use Rattle.mg_link.proofs.Watched.{no_zero}
+use Rattle.mg_server.proofs.Heard.{giving_heard, more_spoiled, told_heard}
+use Rattle.mg_server.proofs.Watched.{no_zero}
 use Rattle.mg_players.specs.Reading.{AreAmong, IsQueried}
 use Rattle.mg_players.proofs.Prompting.{IsLawful, IsPrompted, may_tell, prompted, told_so}
 use Rattle.mg_players.proofs.Queried.{IsQuerying, stays_query}

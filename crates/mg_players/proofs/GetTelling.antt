@@ -1,10 +1,10 @@
 -- What a get tells goes on to hold, turn by turn.
 use Rattle.std.proofs.Common.{◌≡◌, ◌++◌, ℕ, ℤ, List, Option, Some, None, refl, sym, subst}
 use Rattle.std.specs.List.{concat}
-use Rattle.mg_link.specs.Calls.{Grows, Keeps}
+use Rattle.mg_server.specs.Calls.{Grows, Keeps}
 use Rattle.mg_link.specs.Link.{Awaited}
 use Rattle.mg_link.specs.Log.{Call}
-use Rattle.mg_link.specs.Owner.{IsOf, Onward, nobody}
+use Rattle.mg_server.specs.Owner.{IsOf, Onward, nobody}
 use Rattle.mg_link.specs.declared.error.Error.{Error}
 use Rattle.mg_records.specs.FileRecords.{FileRecord}
 use Rattle.mg_gridfs.specs.Downloaded.{doing_owner}

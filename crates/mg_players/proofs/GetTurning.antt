@@ -4,19 +4,19 @@ use Rattle.std.specs.List.{concat}
 use Rattle.std.specs.Prelude.{slice_get}
 use Rattle.std.specs.declared.alloc.Global.{Global}
 use Rattle.mg_bson.specs.Tree.{Tree}
-use Rattle.mg_link.specs.Calls.{AddsOnly, Grows, Keeps, Past, RequestFails, past_of}
+use Rattle.mg_server.specs.Calls.{AddsOnly, Grows, Keeps, Past, RequestFails, past_of}
 use Rattle.mg_link.specs.Errors as errors
 use Rattle.mg_link.specs.Exec as exec
 use Rattle.mg_link.specs.Exec.{Stage}
 use Rattle.mg_link.specs.Link.{Awaited, LogTold}
 use Rattle.mg_link.specs.Log.{Call}
-use Rattle.mg_link.specs.Owner.{IsOf, Onward, Owner, Passes, nobody}
-use Rattle.mg_link.specs.Reader.{finder_at}
+use Rattle.mg_server.specs.Owner.{IsOf, Onward, Owner, Passes, nobody}
+use Rattle.mg_server.specs.Reader.{finder_at}
 use Rattle.mg_link.specs.declared.error.Error.{Error}
 use Rattle.mg_link.specs.declared.error.ErrorKind.TheVariants as kind
-use Rattle.mg_link.proofs.Adding.{adds_none}
-use Rattle.mg_link.proofs.Apart.{holds_nobody, onward_refl, passes_here, passes_on, passes_same}
-use Rattle.mg_link.proofs.Calls.{grows_on, keeps_longer, log_grows, same_keeps}
+use Rattle.mg_server.proofs.Adding.{adds_none}
+use Rattle.mg_server.proofs.Apart.{holds_nobody, onward_refl, passes_here, passes_on, passes_same}
+use Rattle.mg_server.proofs.Calls.{grows_on, keeps_longer, log_grows, same_keeps}
 use Rattle.mg_link.proofs.Places.{get_within}
 use Rattle.mg_options.specs.Fields.{Line, fields_in}
 use Rattle.mg_ops.specs.Naming.{IsNamed}

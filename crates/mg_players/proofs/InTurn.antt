@@ -1,18 +1,18 @@
 -- Replies that a call heard to the getMores of a cursor, one behind another: a poll for its next batch waits for a reply behind all of them, or brings it.
 use Rattle.std.proofs.Common.{◌≡◌, ◌≢◌, ◌⊎◌, ◌<◌, ◌≤◌, ℕ, suc, ℤ, pos, Bool, true, false, List, [], ◌∷◌, ◌++◌, length, Option, Some, None, Ok, refl, sym, ap, ◌∙◌, subst, inl, inr, arith}
 use Rattle.mg_bson.specs.Raw.{fields}
-use Rattle.mg_link.specs.Calls.{Flies, Grows, HeardAt, IsOwn, Past, past_of}
+use Rattle.mg_server.specs.Calls.{Flies, Grows, HeardAt, IsOwn, Past, past_of}
 use Rattle.mg_link.specs.Exec.{IsFirstTry, IsSuccess, Sending, Stage, first, second, ticket_at, ticket_of, unsent}
 use Rattle.mg_link.specs.Link.{Awaited, LogTold, SendsNothing}
 use Rattle.mg_link.specs.Log.{Call, reply}
-use Rattle.mg_link.specs.Owner.{IsOf}
+use Rattle.mg_server.specs.Owner.{IsOf}
 use Rattle.mg_link.specs.Session.{Session}
 use Rattle.mg_link.specs.declared.action.Step.{Step}
 use Rattle.mg_link.specs.declared.action.Step.TheVariants as came
-use Rattle.mg_link.proofs.Calls.{same_keeps}
-use Rattle.mg_link.proofs.Execs.{runs_of}
-use Rattle.mg_link.proofs.Owners.{same_some}
-use Rattle.mg_link.proofs.Pasts.{heard_at_grows, heard_reply}
+use Rattle.mg_server.proofs.Calls.{same_keeps}
+use Rattle.mg_exec.proofs.Execs.{runs_of}
+use Rattle.mg_server.proofs.Owners.{same_some}
+use Rattle.mg_server.proofs.Pasts.{heard_at_grows, heard_reply}
 use Rattle.mg_link.proofs.Places.{get_within}
 use Rattle.mg_ops.specs.Cursors.{Cursor, cursor_of}
 use Rattle.mg_ops.specs.Failing.{FailsBy}

@@ -1,7 +1,7 @@
 -- What an insert tells goes on to hold, turn by turn.
 use Rattle.std.proofs.Common.{◌≡◌, ◌⊎◌, ℕ, ℤ, true, List, [], length, Some, refl, sym, ap, ◌∙◌, subst, inl, inr, Bool, append-nil}
 use Rattle.mg_bson.specs.Tree.{Fields}
-use Rattle.mg_link.specs.Calls.{Grows, Past, past_of, AddsOnly}
+use Rattle.mg_server.specs.Calls.{Grows, Past, past_of, AddsOnly}
 use Rattle.mg_link.specs.Errors.{plain}
 use Rattle.mg_link.specs.Link.{Awaited, LogTold}
 use Rattle.mg_link.specs.Log.{Call}
@@ -10,7 +10,7 @@ use Rattle.mg_link.specs.declared.action.Step.{Step}
 use Rattle.mg_link.specs.declared.action.Step.TheVariants as step
 use Rattle.mg_link.specs.declared.error.Error.{Error}
 use Rattle.mg_link.specs.declared.error.ErrorKind.TheVariants as kind
-use Rattle.mg_link.proofs.Owners.{same_some}
+use Rattle.mg_server.proofs.Owners.{same_some}
 use Rattle.mg_ops.specs.Appended.{Appended}
 use Rattle.mg_players.specs.Causes.{EndsBy, EndsSent, sent_at}
 use Rattle.mg_ops.specs.InsertCauses.{HasSent, InsertCaused, InsertFails, IsInsertOf, no_memory}
@@ -26,7 +26,7 @@ use Rattle.mg_script.specs.declared.outcome.Ended.{Ended}
 use Rattle.mg_script.specs.declared.outcome.Ended.TheVariants as ended
 use Rattle.mg_players.specs.declared.insert.InsertStage.{InsertStage}
 use Rattle.mg_players.specs.declared.insert.InsertStage.TheVariants as inserts
-use Rattle.mg_link.proofs.Adding.{adds_none}
+use Rattle.mg_server.proofs.Adding.{adds_none}
 use Rattle.mg_ops.proofs.Appending.{appended_grown, sent_length}
 use Rattle.mg_ops.proofs.InsertCauses.{insert_fails_grow, inserts_begin, inserts_grow}
 use Rattle.mg_ops.proofs.InsertSends.{poll_sends, starts_sent}

@@ -1,14 +1,14 @@
 -- What a job of any kind tells: where it is left alone, where it gets ready, and in a turn.
 use Rattle.std.proofs.Common.{◌≡◌, ◌⊎◌, ℕ, ℤ, Bool, true, List, [], length, Option, Some, None, refl, sym, ap, ◌∙◌, subst, inl, inr, arith}
 use Rattle.mg_bson.specs.Tree.{Fields, Tree}
-use Rattle.mg_link.specs.Calls.{Keeps, past_of}
+use Rattle.mg_server.specs.Calls.{Keeps, past_of}
 use Rattle.mg_link.specs.Link.{Awaited, LogTold}
 use Rattle.mg_link.specs.Log.{Call}
 use Rattle.mg_link.specs.Namespace.{space}
-use Rattle.mg_link.specs.Owner.{Onward, Owner, nobody}
-use Rattle.mg_link.proofs.Adding.{adds_none}
-use Rattle.mg_link.proofs.Calls.{keeps_longer}
-use Rattle.mg_link.proofs.Owners.{same_some}
+use Rattle.mg_server.specs.Owner.{Onward, Owner, nobody}
+use Rattle.mg_server.proofs.Adding.{adds_none}
+use Rattle.mg_server.proofs.Calls.{keeps_longer}
+use Rattle.mg_server.proofs.Owners.{same_some}
 use Rattle.mg_ops.specs.Drawn.{with_ids}
 use Rattle.mg_players.specs.Causes.{commands_at, sent_at}
 use Rattle.mg_players.specs.Drawing.{InsertDrawsAs, JobHadTurn, sent_documents, sent_from, supply_from}

@@ -1,10 +1,10 @@
 -- What else a call sent, as its log grows and as others go on with it.
 use Rattle.std.proofs.Common.{◌≡◌, ◌⊎◌, ◌<◌, ◌≤◌, ℕ, zero, suc, ℤ, List, length, Some, refl, ap, ◌∙◌, inl, inr, arith}
-use Rattle.mg_link.specs.Calls.{Grows, IsOwn, Keeps, Past, past_of}
+use Rattle.mg_server.specs.Calls.{Grows, IsOwn, Keeps, Past, past_of}
 use Rattle.mg_link.specs.Link.{Awaited}
 use Rattle.mg_link.specs.Log.{Call}
-use Rattle.mg_link.specs.Owner.{IsOf}
-use Rattle.mg_link.proofs.Calls.{keeps_longer, log_grows, same_keeps}
+use Rattle.mg_server.specs.Owner.{IsOf}
+use Rattle.mg_server.proofs.Calls.{keeps_longer, log_grows, same_keeps}
 use Rattle.mg_cursor.specs.Client.{ClientCursor, client_ticket, ticket_by}
 use Rattle.mg_players.specs.Causes.{sent_at, sent_since}
 use Rattle.mg_players.specs.InTurn.{AloneBehind, HasSentAt, NoneBehind}

@@ -4,14 +4,14 @@ use Rattle.std.specs.Prelude.{Vec, cond, nat_eq, slice_get, slice_set, string_by
 use Rattle.std.specs.declared.alloc.Global.{Global}
 use Rattle.mg_link.specs.Link.{Awaited, LogTold}
 use Rattle.mg_link.specs.Log.{Call}
-use Rattle.mg_link.specs.Owner.{Owner, Holds, Onward, Passes, nobody, PassesPlain}
-use Rattle.mg_link.proofs.Apart.{holds_nobody, passes_same, onward_refl}
-use Rattle.mg_link.proofs.Runs.{OwnsNothing, apart_after, apart_at_first, others_onward}
+use Rattle.mg_server.specs.Owner.{Owner, Holds, Onward, Passes, nobody, PassesPlain}
+use Rattle.mg_server.proofs.Apart.{holds_nobody, passes_same, onward_refl}
+use Rattle.mg_server.proofs.Runs.{OwnsNothing, apart_after, apart_at_first, others_onward}
 use Rattle.mg_bson.specs.Tree.{Fields}
 use Rattle.mg_bson.specs.View.{tree}
 use Rattle.mg_link.specs.Namespace.{Space, Target, space, target}
-use Rattle.mg_link.specs.State.{Start, Watch}
-use Rattle.mg_link.proofs.Answering.{knows_new}
+use Rattle.mg_server.specs.State.{Start, Watch}
+use Rattle.mg_server.proofs.Answering.{knows_new}
 use Rattle.mg_change.specs.Following.{not_open}
 use Rattle.mg_script.specs.Plan as plan
 use Rattle.mg_script.specs.Plan.{Begin, Task, begin, pieces, task, tasks}
@@ -27,7 +27,7 @@ use Rattle.mg_players.specs.declared.follow.Stage.TheVariants as stage
 use Rattle.mg_players.specs.Runs.{MayAllGo, Goes}
 use Rattle.mg_players.specs.declared.player.Player.{Player}
 use Rattle.mg_players.specs.declared.player.Player.TheVariants as player
-use Rattle.mg_link.proofs.Owners.{same_some}
+use Rattle.mg_server.proofs.Owners.{same_some}
 use Rattle.mg_link.proofs.Places.{get_past_other, get_set_other, get_set_same}
 use Rattle.mg_players.proofs.Apart.{stays, which}
 use Rattle.std.proofs.lemmas.Bool.{cases_eq, eq-eqb, ne_eqb}

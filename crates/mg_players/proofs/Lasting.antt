@@ -5,7 +5,7 @@ use Rattle.mg_bson.specs.Raw.{fields}
 use Rattle.mg_bson.specs.Tree.{Tree}
 use Rattle.mg_link.specs.Exec.{Runs, Sending, Stage, IsFirstTry}
 use Rattle.mg_link.specs.Link.{Awaited, LogTold}
-use Rattle.mg_link.specs.State.{Start, Watch}
+use Rattle.mg_server.specs.State.{Start, Watch}
 use Rattle.mg_link.specs.declared.action.Step.{Step}
 use Rattle.mg_link.specs.declared.action.Step.TheVariants as step
 use Rattle.mg_link.proofs.Waits.{waits_still}

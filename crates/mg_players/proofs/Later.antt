@@ -3,12 +3,12 @@ use Rattle.std.specs.Prelude.{IsSome}
 use Rattle.std.proofs.Common.{◌≡◌, ℕ, ℤ, Bool, true, false, Option, Some, None, refl, sym, ap, ◌∙◌, subst}
 use Rattle.mg_bson.specs.Raw.{fields}
 use Rattle.mg_bson.specs.Tree.{Tree}
-use Rattle.mg_link.specs.Calls.{Flies, Grows, IsAwaited, Past}
+use Rattle.mg_server.specs.Calls.{Flies, Grows, IsAwaited, Past}
 use Rattle.mg_link.specs.Exec.{Sending, ticket_of}
 use Rattle.mg_link.specs.Link.{Awaited}
 use Rattle.mg_link.specs.Session.{Session}
-use Rattle.mg_link.proofs.Pasts.{flies_grows}
-use Rattle.mg_link.proofs.Calls.{awaited_by}
+use Rattle.mg_server.proofs.Pasts.{flies_grows}
+use Rattle.mg_server.proofs.Calls.{awaited_by}
 use Rattle.mg_ops.specs.declared.change_stream.WatchArgs.{WatchArgs}
 use Rattle.mg_cursor.specs.Causes.{FliesMore}
 use Rattle.mg_cursor.specs.Client.{ClientCursor, at_rest, get_more, kill}

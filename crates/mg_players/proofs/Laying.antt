@@ -5,14 +5,14 @@ use Rattle.std.proofs.lemmas.Bool.{cases_lt}
 use Rattle.std.proofs.lemmas.List.{take-append-le, take_at}
 use Rattle.mg_bson.specs.Raw.{fields}
 use Rattle.mg_bson.specs.Tree.{Fields}
-use Rattle.mg_link.specs.Calls.{AddsOnly, IsOwn, Past, past_of}
-use Rattle.mg_link.specs.Files.{AreChunks, LeavesFile}
-use Rattle.mg_link.specs.Filing.{IsOwnStep, KnowsFile, OthersLeave, part, stays}
-use Rattle.mg_link.specs.History.{IsLegal, Step, state_of}
+use Rattle.mg_server.specs.Calls.{AddsOnly, IsOwn, Past, past_of}
+use Rattle.mg_server.specs.Files.{AreChunks, LeavesFile}
+use Rattle.mg_server.specs.Filing.{IsOwnStep, KnowsFile, OthersLeave, part, stays}
+use Rattle.mg_server.specs.History.{IsLegal, Step, state_of}
 use Rattle.mg_link.specs.Log.{Call}
-use Rattle.mg_link.specs.Owner.{Onward, nobody}
-use Rattle.mg_link.specs.Standing.{Stands}
-use Rattle.mg_link.proofs.Owners.{BackTo, back_to, same_some, stands_without}
+use Rattle.mg_server.specs.Owner.{Onward, nobody}
+use Rattle.mg_server.specs.Standing.{Stands}
+use Rattle.mg_server.proofs.Owners.{BackTo, back_to, same_some, stands_without}
 use Rattle.mg_link.proofs.Places.{get_front, get_push, get_seam, get_some, get_within}
 use Rattle.mg_gridfs.specs.Uploads.{Doing, Phase, begins, busy, checks, closed, ends, fills, idle, inserts, lands, lasts, records, removes, rests, undoes}
 use Rattle.mg_link.specs.Exec.{Stage, first, second, unsent}

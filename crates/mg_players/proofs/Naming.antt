@@ -1,7 +1,7 @@
 -- The collections of a bucket have names that may be where its database has one.
 use Rattle.std.proofs.Common.{◌≡◌, ◌∷◌, ◌++◌, [], List, ℕ, Some, refl}
-use Rattle.mg_link.specs.Commands.{as_collection, as_database}
-use Rattle.mg_link.specs.Files.{Bucket, chunks_space, files_space}
+use Rattle.mg_link.specs.Namespace.{as_collection, as_database}
+use Rattle.mg_server.specs.Files.{Bucket, chunks_space, files_space}
 use Rattle.mg_ops.specs.Naming.{IsNamed}
 
 longer_named : (name : List ℕ) (b : ℕ) (rest : List ℕ) → as_collection (name ++ b ∷ rest) ≡ Some (name ++ b ∷ rest)

@@ -2,16 +2,16 @@
 use Rattle.std.proofs.Common.{◌≡◌, ◌≤◌, ◌++◌, ℕ, ℤ, List, [], ◌∷◌, length, length-append, Some, refl, sym, ap, ◌∙◌, subst, inl, inr, arith}
 use Rattle.mg_bson.specs.Raw.{fields}
 use Rattle.mg_bson.specs.Tree.{Fields}
-use Rattle.mg_link.specs.Calls.{Flies, HeardAt, Past, WaitsAt, past_of}
+use Rattle.mg_server.specs.Calls.{Flies, HeardAt, Past, WaitsAt, past_of}
 use Rattle.mg_link.specs.Exec.{Attempt, AttemptGives, Begins, GoesOn, Runs, Sending, Stage, Tries, answered, first, holding, not_sent, second, unsent, waits}
 use Rattle.mg_link.specs.Link.{Awaited, LogTold}
 use Rattle.mg_link.specs.Log.{Call, reply, see, waiting}
 use Rattle.mg_link.specs.declared.action.Step.{Step}
 use Rattle.mg_link.specs.declared.action.Step.TheVariants as came
-use Rattle.mg_link.proofs.Calls.{gone_on, keeps_longer, keeps_on, same_keeps}
-use Rattle.mg_link.proofs.Filed.{Grew}
+use Rattle.mg_server.proofs.Calls.{gone_on, keeps_longer, keeps_on, same_keeps}
+use Rattle.mg_server.proofs.Filed.{Grew}
 use Rattle.mg_link.proofs.Outs.{length-see}
-use Rattle.mg_link.proofs.Owners.{same_some}
+use Rattle.mg_server.proofs.Owners.{same_some}
 use Rattle.mg_link.proofs.Places.{get_front, get_seam}
 use Rattle.mg_players.specs.Asking.{FliesLast, WaitsLast}
 use Rattle.mg_players.specs.InTurn.{HasSentAt, NoneBehind}

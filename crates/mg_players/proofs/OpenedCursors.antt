@@ -4,15 +4,15 @@ use Rattle.std.specs.Prelude.{slice_get, if◌then◌else◌}
 use Rattle.std.specs.Ordering.{int_eq}
 use Rattle.mg_bson.specs.Tree.{Tree, Fields}
 use Rattle.mg_link.specs.Namespace.{Space}
-use Rattle.mg_link.specs.Query.{Query}
-use Rattle.mg_link.specs.State.{Cursor, Start, State, Watch, nothing, put_cursor, give}
-use Rattle.mg_link.specs.Commands.{Asked, asks_insert, asks_update, asks_delete, asks_query, asks_watch, asks_more, asks_kill, asks_create, asks_indexes, asks_drop, Told, refuses, inserted, updated, deleted, done, opened, gave, killed, asked}
-use Rattle.mg_link.specs.Step.{grown, effect, queried_at, watching_at, moved, ends_cursor, May}
-use Rattle.mg_link.specs.History.{Step, step_after, state_after, state_of, told_at, IsLegal, IsLegalFrom}
-use Rattle.mg_link.specs.Standing.{OpensId}
-use Rattle.mg_link.proofs.Cursoring.{put_is, kept_from}
-use Rattle.mg_link.proofs.Later.{later_step, grown-cursors, opens_given, opens_new, Respects, respects_step}
-use Rattle.mg_link.proofs.Owners.{same_some}
+use Rattle.mg_server.specs.Query.{Query}
+use Rattle.mg_server.specs.State.{Cursor, Start, State, Watch, nothing, put_cursor, give}
+use Rattle.mg_server.specs.Commands.{Asked, asks_insert, asks_update, asks_delete, asks_query, asks_watch, asks_more, asks_kill, asks_create, asks_indexes, asks_drop, Told, refuses, inserted, updated, deleted, done, opened, gave, killed, asked}
+use Rattle.mg_server.specs.Step.{grown, effect, queried_at, watching_at, moved, ends_cursor, May}
+use Rattle.mg_server.specs.History.{Step, step_after, state_after, state_of, told_at, IsLegal, IsLegalFrom}
+use Rattle.mg_server.specs.Standing.{OpensId}
+use Rattle.mg_server.proofs.Cursoring.{put_is, kept_from}
+use Rattle.mg_server.proofs.Later.{later_step, grown-cursors, opens_given, opens_new, Respects, respects_step}
+use Rattle.mg_server.proofs.Owners.{same_some}
 
 -- A cursor that such a command opens holds such things, and those that are left behind a batch are such too.
 pub record Brings (Asks : Asked → Type 0) (Holds : Cursor → Type 0) : Type 0 where

@@ -2,24 +2,24 @@
 use Rattle.std.proofs.Common.{◌≡◌, ◌≢◌, ◌⊎◌, ℕ, ℤ, pos, suc, false, List, [], ◌∷◌, ◌++◌, Option, Some, None, Contains, refl, sym, ap, ◌∙◌, subst, take, inl, inr}
 use Rattle.std.specs.Prelude.{slice_get}
 use Rattle.mg_bson.specs.Raw.{fields}
-use Rattle.mg_link.specs.Commands.{Asked, Batch, Told, asked, asks_more, asks_other, asks_watch, batch_of, garbled, gave_by, told, told_by}
-use Rattle.mg_link.specs.Events.{AsksForEvents, HaveIds}
+use Rattle.mg_server.specs.Commands.{Asked, Batch, Told, asked, asks_more, asks_other, asks_watch, batch_of, garbled, gave_by, told, told_by}
+use Rattle.mg_server.specs.Events.{AsksForEvents, HaveIds}
 use Rattle.mg_link.specs.Exec.{IsSuccess}
-use Rattle.mg_link.specs.History.{Step, IsLegal, state_of, step_after, told_at}
+use Rattle.mg_server.specs.History.{Step, IsLegal, state_of, step_after, told_at}
 use Rattle.mg_link.specs.Namespace.{Space}
-use Rattle.mg_link.specs.Prompt.{AnswersAtOnce, GivesSome, IsPrompt, MeetsConcern}
+use Rattle.mg_server.specs.Prompt.{AnswersAtOnce, GivesSome, IsPrompt, MeetsConcern}
 use Rattle.mg_link.specs.Reply.{code_of, labels_of, verdict_of}
-use Rattle.mg_link.specs.State.{Cursor, query, Start, State, Watch, nothing, watching}
-use Rattle.mg_link.specs.Standing.{OpensId}
-use Rattle.mg_link.specs.Step.{May, MayTell, grown}
+use Rattle.mg_server.specs.State.{Cursor, query, Start, State, Watch, nothing, watching}
+use Rattle.mg_server.specs.Standing.{OpensId}
+use Rattle.mg_server.specs.Step.{May, MayTell, grown}
 use Rattle.mg_link.specs.declared.reply.Verdict.{Verdict}
 use Rattle.mg_link.specs.declared.reply.Verdict.TheVariants as verdict
-use Rattle.mg_link.proofs.Fronts.{legal_take}
-use Rattle.mg_link.proofs.Heard.{giving_heard, more_spoiled, opening_heard, told_heard, watch_spoiled}
-use Rattle.mg_link.proofs.Identified.{batch_ids}
-use Rattle.mg_link.proofs.Numbered.{AreNumbered, numbered_of}
-use Rattle.mg_link.proofs.Watched.{AsksToWatch, IsWatching}
-use Rattle.mg_link.proofs.Owners.{legal_back, legal_front, legal_parts}
+use Rattle.mg_server.proofs.Fronts.{legal_take}
+use Rattle.mg_server.proofs.Heard.{giving_heard, more_spoiled, opening_heard, told_heard, watch_spoiled}
+use Rattle.mg_server.proofs.Identified.{batch_ids}
+use Rattle.mg_server.proofs.Numbered.{AreNumbered, numbered_of}
+use Rattle.mg_server.proofs.Watched.{AsksToWatch, IsWatching}
+use Rattle.mg_server.proofs.Owners.{legal_back, legal_front, legal_parts}
 use Rattle.mg_ops.specs.Aims.{Aim, asked_for}
 use Rattle.mg_link.proofs.Places.{take_more}
 use Rattle.mg_players.proofs.Creating.{creates, never_refused}

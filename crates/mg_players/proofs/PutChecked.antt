@@ -1,7 +1,7 @@
 -- What a step of a put's index check is caused by, and what it knows of the list that it reads.
 use Rattle.std.proofs.Common.{◌≡◌, ◌≢◌, ◌≤◌, ◌||◌, ℕ, suc, ℤ, Bool, true, false, List, [], ◌∷◌, ◌++◌, length, length-append, Some, None, Ok, refl, sym, ap, ◌∙◌, subst, inl, inr, arith, append-nil, append_assoc}
 use Rattle.mg_bson.specs.Raw.{fields}
-use Rattle.mg_link.specs.Calls.{Came, Flies, HeardLast, NoneBroken, Past, RequestFails, past_of, was_broken}
+use Rattle.mg_server.specs.Calls.{Came, Flies, HeardLast, NoneBroken, Past, RequestFails, past_of, was_broken}
 use Rattle.mg_link.specs.Errors.{command_code}
 use Rattle.mg_link.specs.Exec.{IsSuccess, Runs, Sending}
 use Rattle.mg_link.specs.Link.{Awaited, LogTold}
@@ -9,10 +9,10 @@ use Rattle.mg_link.specs.Log.{Call, reply}
 use Rattle.mg_link.specs.declared.action.Step.{Step}
 use Rattle.mg_link.specs.declared.action.Step.TheVariants as came
 use Rattle.mg_link.specs.declared.error.Error.{Error}
-use Rattle.mg_link.proofs.Calls.{RequestRan, log_grows, request_ran, success_ran}
-use Rattle.mg_link.proofs.Filed.{Grew}
-use Rattle.mg_link.proofs.Owners.{same_some}
-use Rattle.mg_link.proofs.Pasts.{fails_anyhow, heard_by}
+use Rattle.mg_server.proofs.Calls.{RequestRan, log_grows, request_ran, success_ran}
+use Rattle.mg_server.proofs.Filed.{Grew}
+use Rattle.mg_server.proofs.Owners.{same_some}
+use Rattle.mg_server.proofs.Pasts.{fails_anyhow, heard_by}
 use Rattle.mg_link.proofs.Places.{get_within}
 use Rattle.mg_options.specs.Fields.{Line, fields_in}
 use Rattle.mg_ops.specs.Cursors.{OpensWith}

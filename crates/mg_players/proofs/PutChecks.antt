@@ -4,7 +4,7 @@ use Rattle.std.proofs.lemmas.List.{map-append, replicate-append-replicate}
 use Rattle.std.specs.Prelude.{slice_get}
 use Rattle.mg_bson.specs.Raw.{fields}
 use Rattle.mg_bson.specs.Tree.{Fields}
-use Rattle.mg_link.specs.Calls.{AddsOnly, Past}
+use Rattle.mg_server.specs.Calls.{AddsOnly, Past}
 use Rattle.mg_link.specs.Errors.{command_code, plain}
 use Rattle.mg_link.specs.Exec.{Attempt, AttemptFails, AttemptGives, Begins, GoesOn, Runs, Sending, Stage, Tries, answered, first, holding, is_repeated, is_retried_attempt, not_sent, second, unsent, waits}
 use Rattle.mg_link.specs.Link.{Adds, Awaited, LogTold, Sees}
@@ -13,7 +13,7 @@ use Rattle.mg_link.specs.declared.action.Step.{Step}
 use Rattle.mg_link.specs.declared.action.Step.TheVariants as came
 use Rattle.mg_link.specs.declared.error.Error.{Error}
 use Rattle.mg_link.specs.declared.error.ErrorKind.TheVariants as kind
-use Rattle.mg_link.proofs.Owners.{same_some}
+use Rattle.mg_server.proofs.Owners.{same_some}
 use Rattle.mg_options.specs.Fields.{Line}
 use Rattle.mg_ops.specs.Logs.{AddsJust, commands_sent}
 use Rattle.mg_ops.proofs.Logs.{commands_seen, just_none, just_on}

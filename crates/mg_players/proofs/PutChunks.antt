@@ -1,8 +1,8 @@
 -- The chunks of a put's file that an insert holds, and their documents.
 use Rattle.std.proofs.Common.{◌≡◌, ◌≢◌, ◌<◌, ◌≤◌, ◌+◌, ◌*◌, ◌^◌, ℕ, suc, List, [], ◌∷◌, ◌++◌, length, refl, sym, ap, ◌∙◌, subst, arith, add-mul, append-nil, append_assoc, length-append}
 use Rattle.mg_bson.specs.Tree.{Fields, Tree}
-use Rattle.mg_link.specs.Files.{chunked, last_chunk}
-use Rattle.mg_link.proofs.Chunking.{chunked-append, chunked_short, length-chunked}
+use Rattle.mg_link.specs.Chunks.{chunked, last_chunk}
+use Rattle.mg_server.proofs.Chunking.{chunked-append, chunked_short, length-chunked}
 use Rattle.mg_options.specs.Fields.{fields_in}
 use Rattle.mg_ops.specs.Limits.{max_documents}
 use Rattle.mg_gridfs.specs.Commands.{chunk_documents, chunks_lines}

@@ -3,7 +3,7 @@ use Rattle.std.proofs.Common.{◌≡◌, ◌⊎◌, ◌<◌, ◌≤◌, ℕ, ℤ
 use Rattle.std.proofs.lemmas.List.{map-append}
 use Rattle.mg_bson.specs.Raw.{fields}
 use Rattle.mg_bson.specs.Tree.{Fields}
-use Rattle.mg_link.specs.Calls.{Past}
+use Rattle.mg_server.specs.Calls.{Past}
 use Rattle.mg_link.specs.Exec.{Attempt, AttemptFails, Runs, Sending, Stage, Tries, answered, first, not_sent, second, ticket_at, unsent, waits}
 use Rattle.mg_link.specs.Link.{Adds, Awaited, LogTold}
 use Rattle.mg_link.specs.Log.{Call, Sight}

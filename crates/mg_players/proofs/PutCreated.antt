@@ -2,19 +2,19 @@
 use Rattle.std.proofs.Common.{◌≡◌, ◌<◌, ◌≤◌, ℕ, ℤ, true, false, List, [], length, None, Some, refl, sym, ap, ◌∙◌, subst, inl, inr, arith}
 use Rattle.mg_bson.specs.Raw.{fields}
 use Rattle.mg_bson.specs.Tree.{Fields}
-use Rattle.mg_link.specs.Calls.{Came, Flies, Grows, HeardLast, IsOwn, Keeps, NoneBroken, Past, RequestFails, out_of_memory, past_of, was_broken, was_lost, was_refused}
+use Rattle.mg_server.specs.Calls.{Came, Flies, Grows, HeardLast, IsOwn, Keeps, NoneBroken, Past, RequestFails, out_of_memory, past_of, was_broken, was_lost, was_refused}
 use Rattle.mg_link.specs.Errors.{command_code}
 use Rattle.mg_link.specs.Exec.{Runs, Sending, Stage, ticket_of, unsent}
 use Rattle.mg_link.specs.Link.{Awaited, LogTold}
 use Rattle.mg_link.specs.Log.{Call, reply}
-use Rattle.mg_link.specs.Owner.{IsOf}
+use Rattle.mg_server.specs.Owner.{IsOf}
 use Rattle.mg_link.specs.declared.action.Step.{Step}
 use Rattle.mg_link.specs.declared.action.Step.TheVariants as came
 use Rattle.mg_link.specs.declared.error.Error.{Error}
-use Rattle.mg_link.proofs.Calls.{grows_on, keeps_longer, log_grows, request_ran, same_keeps}
-use Rattle.mg_link.proofs.Filed.{Grew}
-use Rattle.mg_link.proofs.Owners.{same_some}
-use Rattle.mg_link.proofs.Pasts.{flies_grows, heard_at_grows}
+use Rattle.mg_server.proofs.Calls.{grows_on, keeps_longer, log_grows, request_ran, same_keeps}
+use Rattle.mg_server.proofs.Filed.{Grew}
+use Rattle.mg_server.proofs.Owners.{same_some}
+use Rattle.mg_server.proofs.Pasts.{flies_grows, heard_at_grows}
 use Rattle.mg_link.proofs.Places.{get_some, get_within}
 use Rattle.mg_options.specs.Fields.{fields_in}
 use Rattle.mg_gridfs.specs.Buckets.{ClientBucket}

@@ -2,7 +2,7 @@
 use Rattle.std.proofs.Common.{◌≡◌, ◌⊎◌, ℕ, ℤ, false, List, [], ◌∷◌, Option, Some, None, sym, subst, inl, inr}
 use Rattle.mg_bson.specs.Reading.{doc}
 use Rattle.mg_bson.specs.Tree.{Fields}
-use Rattle.mg_link.specs.Calls.{Past, RequestFails}
+use Rattle.mg_server.specs.Calls.{Past, RequestFails}
 use Rattle.mg_link.specs.Errors.{plain}
 use Rattle.mg_link.specs.Exec.{Attempt, AttemptFails, FailsAs, FailsByReply, Runs, Sending, answered, not_sent, waits}
 use Rattle.mg_link.specs.Failures.{refusal_by}

@@ -2,13 +2,13 @@
 use Rattle.std.proofs.Common.{◌≡◌, ◌<◌, ◌≤◌, ◌+◌, ◌++◌, ℕ, ℤ, Bool, true, false, List, [], length, take, drop, Some, refl, sym, ◌∙◌, subst, arith, append-nil}
 use Rattle.std.specs.Prelude.{slice_get, if◌then◌else◌}
 use Rattle.std.proofs.lemmas.List.{take_all}
-use Rattle.mg_link.specs.Calls.{Past, past_of}
+use Rattle.mg_server.specs.Calls.{Past, past_of}
 use Rattle.mg_link.specs.Errors.{plain}
 use Rattle.mg_link.specs.Link.{Awaited, LogTold}
 use Rattle.mg_link.specs.Log.{Call}
 use Rattle.mg_link.specs.declared.error.ErrorKind.TheVariants as kind
-use Rattle.mg_link.proofs.Calls.{same_keeps}
-use Rattle.mg_link.proofs.Filed.{Grew}
+use Rattle.mg_server.proofs.Calls.{same_keeps}
+use Rattle.mg_server.proofs.Filed.{Grew}
 use Rattle.mg_gridfs.specs.Calls as calls_of
 use Rattle.mg_gridfs.specs.Calls.{Closes, Drives, Writes, at_work, doing_behind, ended_by, first_phase, with_bytes, wrote_by}
 use Rattle.mg_gridfs.specs.Causes.{IsUploading, PhaseUnderway, UnderwayBy}

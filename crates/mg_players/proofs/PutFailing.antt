@@ -3,7 +3,7 @@ use Rattle.std.proofs.Common.{◌≡◌, ◌≢◌, ◌<◌, ◌≤◌, ◌+◌,
 use Rattle.std.proofs.lemmas.List.{length-take-le}
 use Rattle.mg_bson.specs.Raw.{fields}
 use Rattle.mg_bson.specs.Tree.{Fields}
-use Rattle.mg_link.specs.Calls.{Came, Flies, Past, past_of, was_broken}
+use Rattle.mg_server.specs.Calls.{Came, Flies, Past, past_of, was_broken}
 use Rattle.mg_link.specs.Exec.{Runs, Sending}
 use Rattle.mg_link.specs.Link.{Awaited, LogTold, SendsNothing}
 use Rattle.mg_link.specs.Log.{Call, reply}
@@ -12,10 +12,10 @@ use Rattle.mg_link.specs.declared.action.Step.TheVariants as came
 use Rattle.mg_link.specs.declared.error.Error.{Error}
 use Rattle.mg_link.specs.declared.error.ErrorKind.TheVariants as kind
 use Rattle.mg_link.specs.declared.error.GridFsErrorKind.TheVariants as grid
-use Rattle.mg_link.proofs.Calls.{keeps_longer, keeps_on, request_ran, same_keeps, success_ran}
-use Rattle.mg_link.proofs.Filed.{Grew}
-use Rattle.mg_link.proofs.Owners.{same_some}
-use Rattle.mg_link.proofs.Pasts.{fails_anyhow, heard_by}
+use Rattle.mg_server.proofs.Calls.{keeps_longer, keeps_on, request_ran, same_keeps, success_ran}
+use Rattle.mg_server.proofs.Filed.{Grew}
+use Rattle.mg_server.proofs.Owners.{same_some}
+use Rattle.mg_server.proofs.Pasts.{fails_anyhow, heard_by}
 use Rattle.mg_options.specs.Fields.{fields_in}
 use Rattle.mg_ops.specs.Failing.{CannotBeSent, FailsBy}
 use Rattle.mg_ops.specs.Writes.{FailedAs, NotInserted, count_of}

@@ -3,7 +3,7 @@ use Rattle.std.proofs.Common.{◌≡◌, ◌+◌, ℕ, ℤ, false, length, Resul
 use Rattle.mg_link.specs.Acts.{IsOut}
 use Rattle.mg_link.specs.Link.{Awaited, LogTold}
 use Rattle.mg_link.specs.declared.error.Error.{Error}
-use Rattle.mg_link.proofs.Apart.{passes_same}
+use Rattle.mg_server.proofs.Apart.{passes_same}
 use Rattle.mg_link.proofs.Onward.{tickets_same}
 use Rattle.mg_gridfs.specs.Uploads as uploads
 use Rattle.mg_gridfs.specs.UploadView.{upload_of}

@@ -1,11 +1,11 @@
 -- What a put sent, by what it heard, and its first error go on to hold at a later time.
 use Rattle.std.proofs.Common.{◌+◌, ℕ, ℤ, Bool, true, false, List, length, Option, Some, None, refl}
 use Rattle.mg_bson.specs.Tree.{Fields}
-use Rattle.mg_link.specs.Calls.{Grows, Past}
+use Rattle.mg_server.specs.Calls.{Grows, Past}
 use Rattle.mg_link.specs.Exec.{Stage, first, second, unsent}
 use Rattle.mg_link.specs.declared.error.Error.{Error}
-use Rattle.mg_link.proofs.Calls.{same_keeps}
-use Rattle.mg_link.proofs.Pasts.{request_fails_grows}
+use Rattle.mg_server.proofs.Calls.{same_keeps}
+use Rattle.mg_server.proofs.Pasts.{request_fails_grows}
 use Rattle.mg_gridfs.specs.Uploads.{Doing, Phase, begins, busy, checks, closed, ends, fills, idle, inserts, lands, lasts, records, removes, rests, undoes}
 use Rattle.mg_players.specs.PutSends as put_sends
 use Rattle.mg_players.specs.PutSends.{Around, DoingSent, HoldsError, IsErrorBehind, ListsSome, NeedsNoCheck, PhaseSent, PutSends, SentAll, SentChunks, SentFor, SentUntil, file_chunks, record_insert}

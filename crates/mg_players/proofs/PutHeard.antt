@@ -1,12 +1,12 @@
 -- What a put heard of its check goes on to hold at a later time.
 use Rattle.std.proofs.Common.{◌≡◌, ◌≢◌, ℕ, ℤ, Bool, true, false, List, inl, inr}
 use Rattle.mg_bson.specs.Tree.{Fields, Items, no_items}
-use Rattle.mg_link.specs.Calls.{Grows, Past}
+use Rattle.mg_server.specs.Calls.{Grows, Past}
 use Rattle.mg_link.specs.Exec.{Sending}
 use Rattle.mg_link.specs.Link.{Awaited, LogTold}
 use Rattle.mg_link.specs.declared.action.Step.{Step}
 use Rattle.mg_link.specs.declared.action.Step.TheVariants as came
-use Rattle.mg_link.proofs.Pasts.{heard_reply}
+use Rattle.mg_server.proofs.Pasts.{heard_reply}
 use Rattle.mg_options.specs.Fields.{fields_in}
 use Rattle.mg_cursor.specs.declared.polls.AdvancePoll.{AdvancePoll}
 use Rattle.mg_cursor.specs.declared.polls.AdvancePoll.TheVariants as advance

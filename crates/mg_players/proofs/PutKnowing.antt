@@ -2,8 +2,8 @@
 use Rattle.std.proofs.Common.{◌≡◌, List, refl, sym, ◌∙◌, subst}
 use Rattle.mg_link.specs.Link.{Awaited}
 use Rattle.mg_link.specs.Log.{Call}
-use Rattle.mg_link.specs.Owner.{Holds, Onward, Owner, nobody}
-use Rattle.mg_link.proofs.Apart.{holds_nobody, onward_refl}
+use Rattle.mg_server.specs.Owner.{Holds, Onward, Owner, nobody}
+use Rattle.mg_server.proofs.Apart.{holds_nobody, onward_refl}
 use Rattle.mg_gridfs.specs.Uploads.{ClientUpload, upload_ticket}
 use Rattle.mg_gridfs.specs.Openings.{GoesWith}
 use Rattle.mg_gridfs.specs.UploadView.{upload_of}

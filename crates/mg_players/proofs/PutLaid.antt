@@ -2,13 +2,13 @@
 use Rattle.std.proofs.Common.{◌≡◌, ◌<◌, ◌≤◌, ◌+◌, ◌++◌, ◌∷◌, [], ℕ, ℤ, Bool, true, false, List, length, take, drop, Some, refl, sym, subst, inl, inr, arith, append-nil}
 use Rattle.std.specs.Prelude.{slice_get, if◌then◌else◌}
 use Rattle.std.proofs.lemmas.List.{take_all}
-use Rattle.mg_link.specs.Calls.{IsOwn, Past, past_of}
+use Rattle.mg_server.specs.Calls.{IsOwn, Past, past_of}
 use Rattle.mg_link.specs.Errors.{plain}
 use Rattle.mg_link.specs.Link.{Awaited, LogTold}
 use Rattle.mg_link.specs.Log.{Call}
-use Rattle.mg_link.specs.Owner.{IsOf, Onward, nobody}
+use Rattle.mg_server.specs.Owner.{IsOf, Onward, nobody}
 use Rattle.mg_link.specs.declared.error.ErrorKind.TheVariants as kind
-use Rattle.mg_link.proofs.Apart.{onward_refl}
+use Rattle.mg_server.proofs.Apart.{onward_refl}
 use Rattle.mg_link.proofs.Places.{get_some, get_within}
 use Rattle.mg_ops.specs.Naming.{IsNamed}
 use Rattle.mg_gridfs.specs.Calls as calls_of

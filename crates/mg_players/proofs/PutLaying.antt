@@ -2,19 +2,20 @@
 use Rattle.std.proofs.Common.{◌≡◌, ◌++◌, ◌∷◌, [], ℕ, zero, suc, ℤ, false, List, Option, Some, None, refl, sym, ap, ◌∙◌, subst, inl, inr, append-nil}
 use Rattle.mg_bson.specs.Raw.{fields}
 use Rattle.mg_bson.specs.Tree.{Fields}
-use Rattle.mg_link.specs.Calls.{Past, past_of}
+use Rattle.mg_server.specs.Calls.{Past, past_of}
 use Rattle.mg_link.specs.Exec as exec
 use Rattle.mg_link.specs.Exec.{Attempt, Begins, GoesOn, Runs, Sending, Stage, Tries, first, second, unsent}
-use Rattle.mg_link.specs.Files.{AreChunks, chunked}
-use Rattle.mg_link.specs.Filing.{KnowsFile, insert_at, part, stays, whole_with}
+use Rattle.mg_link.specs.Chunks.{chunked}
+use Rattle.mg_server.specs.Files.{AreChunks}
+use Rattle.mg_server.specs.Filing.{KnowsFile, insert_at, part, stays, whole_with}
 use Rattle.mg_link.specs.Link.{Adds, Awaited, LogTold, Sees, SendsNothing}
 use Rattle.mg_link.specs.Log.{Call, Sight, see, waiting}
-use Rattle.mg_link.specs.Owner.{nobody}
+use Rattle.mg_server.specs.Owner.{nobody}
 use Rattle.mg_link.specs.declared.action.Step.{Step}
 use Rattle.mg_link.specs.declared.action.Step.TheVariants as came
 use Rattle.mg_link.specs.declared.error.Error.{Error}
-use Rattle.mg_link.proofs.Apart.{onward_seen}
-use Rattle.mg_link.proofs.Owners.{same_some, see_from}
+use Rattle.mg_server.proofs.Apart.{onward_seen}
+use Rattle.mg_server.proofs.Owners.{same_some, see_from}
 use Rattle.mg_link.proofs.Waits.{never_again, waits_still}
 use Rattle.mg_options.specs.Fields.{fields_in}
 use Rattle.mg_ops.specs.Naming.{IsNamed}

@@ -3,7 +3,7 @@ use Rattle.std.proofs.Common.{◌≡◌, ◌≢◌, ◌⊎◌, ◌<◌, ◌≤�
 use Rattle.std.specs.Ordering.{int_eq}
 use Rattle.std.specs.Prelude.{if◌then◌else◌, unwrap_or}
 use Rattle.mg_bson.specs.Raw.{fields}
-use Rattle.mg_link.specs.Calls.{Grows, Past, past_of}
+use Rattle.mg_server.specs.Calls.{Grows, Past, past_of}
 use Rattle.mg_link.specs.Errors.{plain}
 use Rattle.mg_link.specs.Exec.{Sending}
 use Rattle.mg_link.specs.Link.{Awaited, LogTold}
@@ -16,9 +16,9 @@ use Rattle.mg_link.specs.declared.error.Error.{Error}
 use Rattle.mg_link.specs.declared.error.ErrorKind.TheVariants as kind
 use Rattle.mg_link.specs.declared.pinned.PinnedConnection.{PinnedConnection}
 use Rattle.mg_link.specs.declared.pinned.PinnedConnection.TheVariants as connection
-use Rattle.mg_link.proofs.Calls.{keeps_longer, keeps_on, same_keeps}
-use Rattle.mg_link.proofs.Filed.{Grew}
-use Rattle.mg_link.proofs.Pasts.{heard_at_grows, heard_reply}
+use Rattle.mg_server.proofs.Calls.{keeps_longer, keeps_on, same_keeps}
+use Rattle.mg_server.proofs.Filed.{Grew}
+use Rattle.mg_server.proofs.Pasts.{heard_at_grows, heard_reply}
 use Rattle.mg_link.proofs.Places.{get_within}
 use Rattle.mg_options.specs.Fields.{fields_in}
 use Rattle.mg_ops.specs.Cursors.{Cursor, cursor_of}

@@ -1,15 +1,15 @@
 -- The opening of a put's upload: nothing is sent, and nothing of its file is there.
 use Rattle.std.proofs.Common.{◌≡◌, ℕ, ℤ, false, List, [], length, None, Result, Ok, Err, refl, sym, ap, ◌∙◌, subst, inl, arith}
 use Rattle.mg_link.specs.Acts.{Tickets}
-use Rattle.mg_link.specs.Calls.{past_of}
+use Rattle.mg_server.specs.Calls.{past_of}
 use Rattle.mg_link.specs.Link.{Awaited, LogTold}
 use Rattle.mg_link.specs.Log.{Call}
-use Rattle.mg_link.specs.Owner.{IsOf, Owner, Passes, nobody}
+use Rattle.mg_server.specs.Owner.{IsOf, Owner, Passes, nobody}
 use Rattle.mg_link.specs.declared.error.Error.{Error}
-use Rattle.mg_link.proofs.Adding.{adds_none}
-use Rattle.mg_link.proofs.Apart.{holds_nobody, passes_same}
+use Rattle.mg_server.proofs.Adding.{adds_none}
+use Rattle.mg_server.proofs.Apart.{holds_nobody, passes_same}
 use Rattle.mg_link.proofs.Onward.{tickets_same}
-use Rattle.mg_link.proofs.Owners.{same_some}
+use Rattle.mg_server.proofs.Owners.{same_some}
 use Rattle.mg_gridfs.specs.Buckets.{IsSize}
 use Rattle.mg_gridfs.specs.Storing.{KnowsUpload}
 use Rattle.mg_gridfs.specs.Uploads.{ClientUpload, fresh_upload, upload_ticket}

@@ -2,8 +2,8 @@
 use Rattle.std.proofs.Common.{◌≡◌, ◌<◌, ◌≤◌, ◌+◌, ◌*◌, ℕ, zero, suc, ℤ, Bool, true, false, List, [], ◌++◌, length, drop, Option, Some, None, refl, sym, ap, ◌∙◌, subst, inl, inr, arith, append-nil, append_assoc}
 use Rattle.mg_bson.specs.Raw.{fields}
 use Rattle.mg_bson.specs.Tree.{Fields}
-use Rattle.mg_link.specs.Calls as requests
-use Rattle.mg_link.specs.Calls.{Came, Flies, HeardLast, Keeps, NoneBroken, Past, RequestFails, past_of}
+use Rattle.mg_server.specs.Calls as requests
+use Rattle.mg_server.specs.Calls.{Came, Flies, HeardLast, Keeps, NoneBroken, Past, RequestFails, past_of}
 use Rattle.mg_link.specs.Exec.{Runs, Sending, Stage, first, second, unsent}
 use Rattle.mg_link.specs.Link.{Awaited, LogTold, SendsNothing}
 use Rattle.mg_link.specs.Log as logs
@@ -11,9 +11,9 @@ use Rattle.mg_link.specs.Log.{Call}
 use Rattle.mg_link.specs.declared.action.Step.{Step}
 use Rattle.mg_link.specs.declared.action.Step.TheVariants as came
 use Rattle.mg_link.specs.declared.error.Error.{Error}
-use Rattle.mg_link.proofs.Calls.{keeps_longer, log_grows, request_ran, success_ran}
-use Rattle.mg_link.proofs.Owners.{same_some}
-use Rattle.mg_link.proofs.Pasts.{fails_anyhow}
+use Rattle.mg_server.proofs.Calls.{keeps_longer, log_grows, request_ran, success_ran}
+use Rattle.mg_server.proofs.Owners.{same_some}
+use Rattle.mg_server.proofs.Pasts.{fails_anyhow}
 use Rattle.mg_options.specs.Fields.{fields_in}
 use Rattle.mg_ops.specs.Failing.{FailsBy}
 use Rattle.mg_ops.specs.Logs.{AddsJust}

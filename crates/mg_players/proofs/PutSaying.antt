@@ -2,11 +2,11 @@
 use Rattle.std.proofs.Common.{◌≡◌, ◌⊎◌, ◌<◌, ◌≤◌, ◌++◌, ℕ, List, length, Some, sym, ap, ◌∙◌, subst, inl, inr, arith}
 use Rattle.std.specs.List.{concat}
 use Rattle.mg_bson.specs.Tree.{Fields}
-use Rattle.mg_link.specs.Calls.{Keeps}
+use Rattle.mg_server.specs.Calls.{Keeps}
 use Rattle.mg_link.specs.Link.{LogTold}
 use Rattle.mg_link.specs.Log.{Call}
-use Rattle.mg_link.specs.Owner.{IsOf}
-use Rattle.mg_link.proofs.Calls.{keeps_longer}
+use Rattle.mg_server.specs.Owner.{IsOf}
+use Rattle.mg_server.proofs.Calls.{keeps_longer}
 use Rattle.mg_ops.specs.Logs.{AddsJust}
 use Rattle.mg_players.specs.Causes.{AreInLog, commands_at, sent_since}
 use Rattle.mg_players.specs.Plays.{Places, all_places}

@@ -5,12 +5,12 @@ use Rattle.std.proofs.lemmas.List.{length-take-le, take-append-drop}
 use Rattle.mg_bson.specs.Raw.{fields}
 use Rattle.mg_bson.specs.Tree.{Fields}
 use Rattle.mg_link.specs.Exec.{Runs, Sending}
-use Rattle.mg_link.specs.Files.{chunked}
+use Rattle.mg_link.specs.Chunks.{chunked}
 use Rattle.mg_link.specs.Link.{Awaited, LogTold, SendsNothing}
 use Rattle.mg_link.specs.declared.action.Step.{Step}
 use Rattle.mg_link.specs.declared.action.Step.TheVariants as came
 use Rattle.mg_link.specs.declared.error.Error.{Error}
-use Rattle.mg_link.proofs.Chunking.{chunked_full}
+use Rattle.mg_server.proofs.Chunking.{chunked_full}
 use Rattle.mg_options.specs.Fields.{fields_in}
 use Rattle.mg_gridfs.specs.Calls.{behind_call, doing_behind}
 use Rattle.mg_gridfs.specs.Checks as check

@@ -1,17 +1,17 @@
 -- What a put tells goes on to hold while others call, and its ticket is that of a call of its own.
 use Rattle.std.proofs.Common.{◌≡◌, ◌∷◌, ◌++◌, Bool, true, false, ℕ, ℤ, List, [], length, Option, Some, None, sym, subst, inl, inr}
 use Rattle.std.specs.List.{concat}
-use Rattle.mg_link.specs.Calls.{Grows, Keeps, Past, RequestFails, past_of}
-use Rattle.mg_link.specs.Files.{Bucket}
+use Rattle.mg_server.specs.Calls.{Grows, Keeps, Past, RequestFails, past_of}
+use Rattle.mg_server.specs.Files.{Bucket}
 use Rattle.mg_link.specs.Link.{Awaited}
 use Rattle.mg_link.specs.Log.{Call, reply}
-use Rattle.mg_link.specs.Owner.{Onward, nobody}
+use Rattle.mg_server.specs.Owner.{Onward, nobody}
 use Rattle.mg_link.specs.declared.error.Error.{Error}
-use Rattle.mg_link.proofs.Calls.{HoldsOwn, own_by}
-use Rattle.mg_link.proofs.Filing.{file_kept}
-use Rattle.mg_link.proofs.Apart.{onward_refl}
-use Rattle.mg_link.proofs.Owners.{grown_refl}
-use Rattle.mg_link.proofs.Pasts.{flies_grows, heard_grows, request_fails_grows}
+use Rattle.mg_server.proofs.Calls.{HoldsOwn, own_by}
+use Rattle.mg_server.proofs.Filing.{file_kept}
+use Rattle.mg_server.proofs.Apart.{onward_refl}
+use Rattle.mg_server.proofs.Owners.{grown_refl}
+use Rattle.mg_server.proofs.Pasts.{flies_grows, heard_grows, request_fails_grows}
 use Rattle.mg_cursor.specs.Causes.{TellsNoCursor}
 use Rattle.mg_options.specs.Fields.{fields_in}
 use Rattle.mg_bson.specs.Raw.{fields}

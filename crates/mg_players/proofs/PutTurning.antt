@@ -2,8 +2,8 @@
 use Rattle.std.proofs.Common.{◌≡◌, ℕ, List, Option, Some, refl, sym, subst}
 use Rattle.mg_link.specs.Link.{Awaited, LogTold}
 use Rattle.mg_link.specs.Log.{Call}
-use Rattle.mg_link.specs.Owner.{Owner, Passes, nobody}
-use Rattle.mg_link.proofs.Apart.{passes_here, passes_on}
+use Rattle.mg_server.specs.Owner.{Owner, Passes, nobody}
+use Rattle.mg_server.proofs.Apart.{passes_here, passes_on}
 use Rattle.mg_gridfs.specs.Cursors.{LeavesOthers, upload_owner}
 use Rattle.mg_gridfs.specs.Uploads.{ClientUpload}
 use Rattle.mg_gridfs.specs.UploadView.{upload_of}

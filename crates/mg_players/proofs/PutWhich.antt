@@ -3,8 +3,9 @@ use Rattle.std.proofs.Common.{◌≡◌, ◌++◌, ◌∷◌, [], ℕ, ℤ, true
 use Rattle.std.specs.Prelude.{codes, option_and_then, unwrap_or}
 use Rattle.mg_bson.specs.Raw.{fields}
 use Rattle.mg_bson.specs.Tree.{Fields}
-use Rattle.mg_link.specs.Commands.{Asked, as_integer, asked, asked_by, asks_create, asks_delete, asks_drop, asks_indexes, asks_insert, asks_kill, asks_more, asks_other, asks_query, asks_update, asks_watch, more_of, space_at}
-use Rattle.mg_link.specs.Files.{chunks_space, files_space, has_value}
+use Rattle.mg_link.specs.Numbers.{as_integer}
+use Rattle.mg_server.specs.Commands.{Asked, asked, asked_by, asks_create, asks_delete, asks_drop, asks_indexes, asks_insert, asks_kill, asks_more, asks_other, asks_query, asks_update, asks_watch, more_of, space_at}
+use Rattle.mg_server.specs.Files.{chunks_space, files_space, has_value}
 use Rattle.mg_bson.specs.Find.{get}
 use Rattle.mg_link.specs.Namespace.{Space}
 use Rattle.mg_options.specs.Fields.{fields_in}

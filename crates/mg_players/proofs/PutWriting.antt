@@ -2,14 +2,15 @@
 use Rattle.std.proofs.Common.{◌≡◌, ◌<◌, ◌≤◌, ◌+◌, ◌-◌, ◌++◌, Bool, ℕ, ℤ, List, [], ◌∷◌, length, length-append, take, Option, Some, refl, sym, ap, ◌∙◌, subst, inl, inr}
 use Rattle.std.specs.Prelude.{slice_get}
 use Rattle.mg_link.specs.Acts.{Tickets}
-use Rattle.mg_link.specs.Calls.{AddsOnly, Past, past_of}
-use Rattle.mg_link.specs.Files.{AreChunks, Bucket, chunked}
-use Rattle.mg_link.specs.Filing.{KnowsFile, cleared, stays, whole_with}
+use Rattle.mg_server.specs.Calls.{AddsOnly, Past, past_of}
+use Rattle.mg_link.specs.Chunks.{chunked}
+use Rattle.mg_server.specs.Files.{AreChunks, Bucket}
+use Rattle.mg_server.specs.Filing.{KnowsFile, cleared, stays, whole_with}
 use Rattle.mg_link.specs.Link.{Awaited, LogTold}
 use Rattle.mg_link.specs.Log.{Call}
 use Rattle.mg_link.specs.declared.error.Error.{Error}
-use Rattle.mg_link.proofs.Calls.{keeps_longer}
-use Rattle.mg_link.proofs.Owners.{same_some}
+use Rattle.mg_server.proofs.Calls.{keeps_longer}
+use Rattle.mg_server.proofs.Owners.{same_some}
 use Rattle.mg_link.proofs.Places.{get_within}
 use Rattle.mg_gridfs.specs.Calls.{Closes, LeavesEnd, LeavesWrite, Writes}
 use Rattle.mg_gridfs.specs.Causes.{CloseCame, CloseCaused, IsUploading, UnderwayBy, WriteCame, WriteCaused}

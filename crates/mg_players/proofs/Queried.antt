@@ -1,11 +1,11 @@
 -- A cursor that a query opened is a query's as long as it stands.
 use Rattle.std.proofs.Common.{◌≡◌, ℕ, ℤ, List, ◌++◌, drop, length, take, Option, Some, subst}
 use Rattle.mg_bson.specs.Tree.{Fields, Tree}
-use Rattle.mg_link.specs.State.{Cursor, State, query, watching}
-use Rattle.mg_link.specs.Commands.{asks_query, asks_watch}
-use Rattle.mg_link.specs.Step.{moved}
-use Rattle.mg_link.specs.History.{IsLegal, Step, state_of}
-use Rattle.mg_link.proofs.Owners.{same_some}
+use Rattle.mg_server.specs.State.{Cursor, State, query, watching}
+use Rattle.mg_server.specs.Commands.{asks_query, asks_watch}
+use Rattle.mg_server.specs.Step.{moved}
+use Rattle.mg_server.specs.History.{IsLegal, Step, state_of}
+use Rattle.mg_server.proofs.Owners.{same_some}
 use Rattle.mg_link.proofs.Places.{get_front}
 use Rattle.mg_players.specs.Reading.{AsksQuery, IsQueried}
 use Rattle.mg_players.proofs.OpenedCursors.{Brings, stays_such}

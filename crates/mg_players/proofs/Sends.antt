@@ -4,10 +4,10 @@ use Rattle.std.specs.Prelude.{slice_get}
 use Rattle.mg_bson.specs.Tree.{Tree, Fields}
 use Rattle.mg_bson.specs.Raw.{fields}
 use Rattle.mg_bson.specs.declared.tree.Timestamp.{Timestamp}
-use Rattle.mg_link.specs.Calls.{Keeps, Past, AddsOnly}
+use Rattle.mg_server.specs.Calls.{Keeps, Past, AddsOnly}
 use Rattle.mg_link.specs.Link.{Awaited, LogTold}
 use Rattle.mg_link.specs.Log.{Call}
-use Rattle.mg_link.specs.Step.{ends_cursor}
+use Rattle.mg_server.specs.Step.{ends_cursor}
 use Rattle.mg_link.specs.declared.error.Error.{Error}
 use Rattle.mg_link.specs.declared.error.ErrorKind.{ErrorKind}
 use Rattle.mg_link.specs.declared.error.ErrorKind.TheVariants as kind
@@ -31,7 +31,7 @@ use Rattle.mg_script.specs.declared.outcome.Answer.{Answer}
 use Rattle.mg_script.specs.declared.outcome.Answer.TheVariants as answers
 use Rattle.mg_script.specs.declared.outcome.Turned.{Turned}
 use Rattle.mg_link.proofs.Places.{get_some}
-use Rattle.mg_link.proofs.Adding.{same_command_at}
+use Rattle.mg_server.proofs.Adding.{same_command_at}
 use Rattle.mg_change.proofs.Such.{AddsSuch}
 use Rattle.mg_players.proofs.Adding.{adds_sent}
 use Rattle.mg_players.proofs.Drawing.{turn_within}

@@ -2,16 +2,16 @@
 use Rattle.std.proofs.Common.{◌≡◌, ◌⊎◌, ◌+◌, ◌-◌, ◌≤◌, ◌<◌, ℕ, zero, suc, ℤ, Bool, true, List, [], ◌∷◌, ◌++◌, length, Option, Some, None, refl, sym, ap, ◌∙◌, subst, inl, inr, arith, length-append}
 use Rattle.std.specs.Prelude.{◌↔◌, IsSome, IsTrue, slice_get}
 use Rattle.mg_bson.specs.Tree.{Fields, Tree}
-use Rattle.mg_link.specs.Calls.{Grows, Keeps, Past, past_of, AddsOnly}
+use Rattle.mg_server.specs.Calls.{Grows, Keeps, Past, past_of, AddsOnly}
 use Rattle.mg_link.specs.Exec.{Sending}
 use Rattle.mg_link.specs.Link.{Awaited, LogTold}
 use Rattle.mg_link.specs.Log.{Call}
-use Rattle.mg_link.specs.Owner.{IsOf}
+use Rattle.mg_server.specs.Owner.{IsOf}
 use Rattle.mg_link.specs.declared.action.Step.{Step}
 use Rattle.mg_link.specs.declared.action.Step.TheVariants as step
 use Rattle.mg_link.specs.declared.error.Error.{Error}
 use Rattle.mg_link.specs.declared.error.ErrorKind.TheVariants as kind
-use Rattle.mg_link.proofs.Calls.{keeps_longer, same_keeps}
+use Rattle.mg_server.proofs.Calls.{keeps_longer, same_keeps}
 use Rattle.mg_link.proofs.Places.{get_within}
 use Rattle.mg_ops.specs.declared.change_stream.WatchArgs.{WatchArgs}
 use Rattle.mg_change.specs.Causes.{CallCame, CallCaused, Called, SoFar}
@@ -47,7 +47,7 @@ use Rattle.mg_script.specs.declared.outcome.Ended.TheVariants as ended
 use Rattle.mg_players.specs.declared.follow.Stage.{Stage}
 use Rattle.mg_players.specs.declared.follow.Stage.TheVariants as stage
 use Rattle.mg_players.specs.declared.follow.Watched.{Watched}
-use Rattle.mg_link.proofs.Adding.{adds_none, adds_on}
+use Rattle.mg_server.proofs.Adding.{adds_none, adds_on}
 use Rattle.mg_players.proofs.Commands.{began_as, falls_later, falls_more, falls_none}
 use Rattle.mg_players.proofs.Fallings.{closing_falls, closing_left, kill_of, opening_falls, opening_left}
 use Rattle.mg_players.proofs.Lasting.{Lasts}

@@ -3,15 +3,15 @@ use Rattle.std.proofs.Common.{◌≡◌, ℕ, pos, Bool, false, true, List, [], 
 use Rattle.mg_bson.specs.Tree.{Tree, Fields}
 use Rattle.mg_bson.specs.Raw.{fields}
 use Rattle.mg_link.specs.Exec.{Sending}
-use Rattle.mg_link.specs.Follow.{Follow, Knows, Moved, owner_of}
+use Rattle.mg_server.specs.Follow.{Follow, Knows, Moved, owner_of}
 use Rattle.mg_link.specs.Link.{Awaited, LogTold}
 use Rattle.mg_link.specs.Log.{Call}
-use Rattle.mg_link.specs.Owner.{Owner, Holds, Onward, Passes}
-use Rattle.mg_link.specs.State.{Start, Watch}
-use Rattle.mg_link.proofs.Answering.{follows_on}
-use Rattle.mg_link.proofs.Apart.{passes_on, passes_same}
-use Rattle.mg_link.proofs.Moves.{stayed}
-use Rattle.mg_link.proofs.Follows.{knows_kept}
+use Rattle.mg_server.specs.Owner.{Owner, Holds, Onward, Passes}
+use Rattle.mg_server.specs.State.{Start, Watch}
+use Rattle.mg_server.proofs.Answering.{follows_on}
+use Rattle.mg_server.proofs.Apart.{passes_on, passes_same}
+use Rattle.mg_server.proofs.Moves.{stayed}
+use Rattle.mg_server.proofs.Follows.{knows_kept}
 use Rattle.mg_cursor.specs.Client as cursors
 use Rattle.mg_cursor.specs.Closing.{IsNotAsking}
 use Rattle.mg_change.proofs.Closed.{close_moved}

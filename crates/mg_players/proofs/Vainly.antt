@@ -6,8 +6,8 @@ use Rattle.mg_link.specs.declared.error.Error.{Error}
 use Rattle.mg_link.specs.Exec.{Sending, ticket_of}
 use Rattle.mg_link.specs.Link.{Awaited, LogTold}
 use Rattle.mg_link.specs.Log.{Call}
-use Rattle.mg_link.specs.Owner.{Onward, nobody}
-use Rattle.mg_link.proofs.Apart.{holds_nobody, passes_on, passes_same}
+use Rattle.mg_server.specs.Owner.{Onward, nobody}
+use Rattle.mg_server.proofs.Apart.{holds_nobody, passes_on, passes_same}
 use Rattle.mg_change.specs.Following.{AsksNothing}
 use Rattle.mg_change.specs.Growths.{GoesOnward, HasCommand, IsInFlight, OpensInVain, StandsNowhere}
 use Rattle.mg_change.specs.ClientOpenings.{sending_ticket}

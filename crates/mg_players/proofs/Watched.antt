@@ -3,10 +3,10 @@ use Rattle.std.proofs.Common.{◌≡◌, ◌⊎◌, ℕ, Bool, false, List, [], 
 use Rattle.std.specs.Prelude.{codes, option_and_then, string_bytes, unwrap_or, if◌then◌else◌}
 use Rattle.std.proofs.lemmas.Bool.{cases_Bool}
 use Rattle.mg_bson.specs.Tree.{Fields}
-use Rattle.mg_link.specs.Commands.{as_collection, as_database, filter_stages, whole_target}
-use Rattle.mg_link.specs.Filter.{Condition, has_dot}
-use Rattle.mg_link.specs.Namespace.{Target, database, collection, cluster, target}
-use Rattle.mg_link.specs.State.{Start, Watch}
+use Rattle.mg_link.specs.Namespace.{as_collection, as_database, has_dot, Target, database, collection, cluster, target}
+use Rattle.mg_server.specs.Commands.{filter_stages, whole_target}
+use Rattle.mg_server.specs.Filter.{Condition}
+use Rattle.mg_server.specs.State.{Start, Watch}
 use Rattle.mg_link.specs.declared.namespace.OperationTarget.{OperationTarget}
 use Rattle.mg_link.specs.declared.namespace.OperationTarget.TheVariants as targets
 use Rattle.mg_options.specs.declared.change_stream.ChangeStreamOptions.{ChangeStreamOptions}

@@ -5,7 +5,7 @@ use Rattle.mg_link.specs.Exec.{IsSuccess, Stage, unsent, first, second}
 use Rattle.mg_link.specs.Link.{Awaited}
 use Rattle.mg_link.specs.Log.{Call, reply}
 use Rattle.mg_link.specs.Namespace.{Space}
-use Rattle.mg_link.specs.Owner.{IsOf}
+use Rattle.mg_server.specs.Owner.{IsOf}
 use Rattle.mg_ops.specs.Cursors.{Cursor, cursor_of}
 use Rattle.mg_cursor.specs.Client as client
 use Rattle.mg_cursor.specs.Client.{ClientCursor}

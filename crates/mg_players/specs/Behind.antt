@@ -2,12 +2,12 @@
 use Rattle.std.specs.Prelude.{◌≡◌, ◌<◌, ◌≤◌, ◌⊎◌, ℕ, ℤ, false, List, Some, slice_get, take}
 use Rattle.mg_bson.specs.Raw.{fields}
 use Rattle.mg_bson.specs.Tree.{Fields}
-use Rattle.mg_link.specs.Commands.{Failure, Told, inserted}
-use Rattle.mg_link.specs.Files.{IsWhole, files_space}
-use Rattle.mg_link.specs.History.{IsLegal, Step, state_of, told_at}
+use Rattle.mg_server.specs.Commands.{Failure, Told, inserted}
+use Rattle.mg_server.specs.Files.{IsWhole, files_space}
+use Rattle.mg_server.specs.History.{IsLegal, Step, state_of, told_at}
 use Rattle.mg_link.specs.Log.{Call}
-use Rattle.mg_link.specs.Standing.{Stands}
-use Rattle.mg_link.specs.Step.{is_listed}
+use Rattle.mg_server.specs.Standing.{Stands}
+use Rattle.mg_server.specs.Step.{is_listed}
 use Rattle.mg_link.specs.declared.error.Error.{Error}
 use Rattle.mg_ops.specs.Naming.{IsNamed}
 use Rattle.mg_players.specs.Causes.{Course}

@@ -1,6 +1,6 @@
 -- The bucket that a job names.
 use Rattle.std.specs.Prelude.{None}
-use Rattle.mg_link.specs.Files.{Bucket, chunks_space, files_space}
+use Rattle.mg_server.specs.Files.{Bucket, chunks_space, files_space}
 use Rattle.mg_gridfs.specs.Buckets.{ClientBucket, default_chunk_size}
 
 -- a bucket of which nothing but its names is said

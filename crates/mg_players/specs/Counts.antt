@@ -1,6 +1,6 @@
 -- What is counted of a turn.
 use Rattle.std.specs.Prelude.{◌≡◌, ◌+◌, ◌-◌, ◌^◌, ◌<◌, ◌≤◌, ℕ, zero, suc, Bool, true, false, nat_eq, Option, Some, None, is_some, IsSome, List, [], ◌∷◌, length, slice_get, if◌then◌else◌}
-use Rattle.mg_link.specs.Calls.{Stays}
+use Rattle.mg_server.specs.Calls.{Stays}
 use Rattle.mg_link.specs.Causes.{RoseJust}
 use Rattle.mg_link.specs.Link.{Awaited, OneMore, Polls, SamePolls, LogTold}
 use Rattle.mg_link.specs.Log.{fault, Call}

@@ -2,12 +2,13 @@
 use Rattle.std.specs.Prelude.{◌≡◌, ◌⊎◌, ◌<◌, ◌≤◌, ◌++◌, ℕ, suc, List, [], ◌∷◌, length, Some, Ok, slice_get, take}
 use Rattle.std.specs.List.{concat}
 use Rattle.mg_bson.specs.Tree.{Fields, Tree}
-use Rattle.mg_link.specs.Commands.{as_database, asked, asks_query}
-use Rattle.mg_link.specs.Files.{Bucket, IsWhole, LeavesFile, chunks_space, file_of, files_space}
-use Rattle.mg_link.specs.History.{IsLegal, Step, state_of}
+use Rattle.mg_link.specs.Namespace.{as_database}
+use Rattle.mg_server.specs.Commands.{asked, asks_query}
+use Rattle.mg_server.specs.Files.{Bucket, IsWhole, LeavesFile, chunks_space, file_of, files_space}
+use Rattle.mg_server.specs.History.{IsLegal, Step, state_of}
 use Rattle.mg_link.specs.Log.{Call}
-use Rattle.mg_link.specs.Query.{Query}
-use Rattle.mg_link.specs.Standing.{Stands}
+use Rattle.mg_server.specs.Query.{Query}
+use Rattle.mg_server.specs.Standing.{Stands}
 use Rattle.mg_link.specs.declared.error.Error.{Error}
 use Rattle.mg_link.specs.declared.error.ErrorKind.{ErrorKind}
 use Rattle.mg_link.specs.declared.error.ErrorKind.TheVariants as kind

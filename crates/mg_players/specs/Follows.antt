@@ -3,16 +3,16 @@ use Rattle.std.specs.Prelude.{◌≡◌, ◌⊎◌, Bool, true, ℕ, pos, List, 
 use Rattle.mg_bson.specs.Tree.{Tree, document, Fields}
 use Rattle.mg_bson.specs.Literal.{◌⇒◌⨾◌, empty}
 use Rattle.mg_bson.specs.Raw.{fields}
-use Rattle.mg_link.specs.Commands.{as_collection, as_database, filter_stages}
-use Rattle.mg_link.specs.Follow.{Follow, FollowsOn, Knows, owing, owner_of}
+use Rattle.mg_link.specs.Namespace.{as_collection, as_database, Target, database, collection, cluster, target}
+use Rattle.mg_server.specs.Commands.{filter_stages}
+use Rattle.mg_server.specs.Follow.{Follow, FollowsOn, Knows, owing, owner_of}
 use Rattle.mg_link.specs.Link.{Awaited, LogTold}
 use Rattle.mg_link.specs.Log.{Call}
-use Rattle.mg_link.specs.Namespace.{Target, database, collection, cluster, target}
 use Rattle.mg_link.specs.declared.namespace.OperationTarget.{OperationTarget}
 use Rattle.mg_link.specs.declared.namespace.OperationTarget.TheVariants as targets
-use Rattle.mg_link.specs.Owner.{Owner, Passes, nobody}
-use Rattle.mg_link.specs.State.{Start, Watch, time_of}
-use Rattle.mg_link.specs.State as state
+use Rattle.mg_server.specs.Owner.{Owner, Passes, nobody}
+use Rattle.mg_server.specs.State.{Start, Watch, time_of}
+use Rattle.mg_server.specs.State as state
 use Rattle.mg_ops.specs.Aims.{aim}
 use Rattle.mg_ops.specs.Naming.{IsNamed, start_in}
 use Rattle.mg_ops.specs.declared.change_stream.WatchArgs.{WatchArgs}

@@ -4,11 +4,11 @@ use Rattle.std.specs.declared.alloc.Global.{Global}
 use Rattle.mg_bson.specs.Tree.{Fields, Tree}
 use Rattle.mg_bson.specs.View.{tree}
 use Rattle.mg_link.specs.Errors.{plain}
-use Rattle.mg_link.specs.Files.{Bucket}
+use Rattle.mg_server.specs.Files.{Bucket}
 use Rattle.mg_link.specs.Link.{Awaited}
 use Rattle.mg_link.specs.Log.{Call}
 use Rattle.mg_link.specs.Namespace.{Space}
-use Rattle.mg_link.specs.Owner.{Owner, nobody}
+use Rattle.mg_server.specs.Owner.{Owner, nobody}
 use Rattle.mg_link.specs.declared.error.BadArgument.TheVariants as argument
 use Rattle.mg_link.specs.declared.error.Error.{Error}
 use Rattle.mg_link.specs.declared.error.ErrorKind.TheVariants as kind

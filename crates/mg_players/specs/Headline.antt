@@ -2,14 +2,14 @@
 use Rattle.std.specs.Prelude.{◌≡◌, ◌⊎◌, ◌++◌, ℕ, List, [], Option, Some, None, length, slice_get, string_bytes, take}
 use Rattle.mg_bson.specs.Tree.{Fields, Tree}
 use Rattle.mg_bson.specs.View.{tree}
-use Rattle.mg_link.specs.Files.{IsWhole}
-use Rattle.mg_link.specs.History.{IsLegal, Step, state_of}
+use Rattle.mg_server.specs.Files.{IsWhole}
+use Rattle.mg_server.specs.History.{IsLegal, Step, state_of}
 use Rattle.mg_link.specs.Link.{Awaited, LogTold}
 use Rattle.mg_link.specs.Log.{Call}
 use Rattle.mg_link.specs.Namespace.{space, target}
-use Rattle.mg_link.specs.Owner.{Owner, AreApart, NamesItsOwn, nobody}
-use Rattle.mg_link.specs.Standing.{Stands}
-use Rattle.mg_link.specs.State.{Start, Watch}
+use Rattle.mg_server.specs.Owner.{Owner, AreApart, NamesItsOwn, nobody}
+use Rattle.mg_server.specs.Standing.{Stands}
+use Rattle.mg_server.specs.State.{Start, Watch}
 use Rattle.mg_script.specs.Plan.{Task, begin, insert, follow, pieces, put, get}
 use Rattle.mg_players.specs.Behind.{WholeBehind}
 use Rattle.mg_players.specs.Causes.{Course, SentIn, course}

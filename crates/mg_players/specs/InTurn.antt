@@ -1,7 +1,7 @@
 -- Replies that a call heard to the getMores of a cursor, one behind another, and which of their batches were empty.
 use Rattle.std.specs.Prelude.{◌≡◌, ◌≢◌, ◌<◌, ◌≤◌, ℕ, suc, pos, List, [], ◌∷◌, length, Option, Some, None, Ok}
 use Rattle.mg_bson.specs.Raw.{fields}
-use Rattle.mg_link.specs.Calls.{HeardAt, IsOwn, Past}
+use Rattle.mg_server.specs.Calls.{HeardAt, IsOwn, Past}
 use Rattle.mg_link.specs.Exec.{IsSuccess, Sending, ticket_of}
 use Rattle.mg_link.specs.Link.{Awaited}
 use Rattle.mg_link.specs.Log.{reply}

@@ -2,13 +2,13 @@
 use Rattle.std.specs.Prelude.{◌≡◌, ◌⊎◌, ℕ, ℤ, List, [], Some, slice_get, take}
 use Rattle.mg_bson.specs.Raw.{fields}
 use Rattle.mg_bson.specs.Tree.{Fields}
-use Rattle.mg_link.specs.Calls.{IsOwn, Past}
-use Rattle.mg_link.specs.Files.{AreChunks, file_of}
-use Rattle.mg_link.specs.Filing.{IsOwnStep, OthersLeave, part}
-use Rattle.mg_link.specs.History.{IsLegal, Step, state_of}
+use Rattle.mg_server.specs.Calls.{IsOwn, Past}
+use Rattle.mg_server.specs.Files.{AreChunks, file_of}
+use Rattle.mg_server.specs.Filing.{IsOwnStep, OthersLeave, part}
+use Rattle.mg_server.specs.History.{IsLegal, Step, state_of}
 use Rattle.mg_link.specs.Log.{Call}
-use Rattle.mg_link.specs.Standing.{Stands}
-use Rattle.mg_link.specs.State.{State}
+use Rattle.mg_server.specs.Standing.{Stands}
+use Rattle.mg_server.specs.State.{State}
 use Rattle.mg_gridfs.specs.Uploads.{Doing, Phase, begins, busy, checks, closed, ends, fills, idle, inserts, lands, lasts, records, removes, rests, undoes}
 use Rattle.mg_players.specs.PutSends.{Around, file_chunks, record_insert}
 use Rattle.mg_players.specs.Puts.{NamesFiles, PutTask}

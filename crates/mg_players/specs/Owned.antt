@@ -1,11 +1,11 @@
 -- Whose cursors the jobs of a run own and name.
 use Rattle.std.specs.Prelude.{◌≡◌, ◌<◌, ℕ, ℤ, List, Some, slice_get}
-use Rattle.mg_link.specs.Commands.{asked}
-use Rattle.mg_link.specs.History.{IsLegal, Step, told_at}
+use Rattle.mg_server.specs.Commands.{asked}
+use Rattle.mg_server.specs.History.{IsLegal, Step, told_at}
 use Rattle.mg_link.specs.Link.{LogTold}
 use Rattle.mg_link.specs.Log.{Call}
-use Rattle.mg_link.specs.Owner.{IsOf, Owner, Owns}
-use Rattle.mg_link.specs.Standing.{Names, OpensId, Stands, TookEffect}
+use Rattle.mg_server.specs.Owner.{IsOf, Owner, Owns}
+use Rattle.mg_server.specs.Standing.{Names, OpensId, Stands, TookEffect}
 use Rattle.mg_players.specs.Causes.{Course, course, places_of}
 use Rattle.mg_script.specs.declared.outcome.Turned.{Turned}
 

@@ -2,10 +2,10 @@
 use Rattle.std.specs.List.{concat}
 use Rattle.std.specs.Prelude.{◌≡◌, ◌⊎◌, ◌<◌, ◌≤◌, ◌++◌, ℕ, ℤ, Bool, suc, List, length, Option, Some, slice_get}
 use Rattle.mg_link.specs.Acts.{IsOut, Tickets}
-use Rattle.mg_link.specs.Calls.{AddsOnly}
+use Rattle.mg_server.specs.Calls.{AddsOnly}
 use Rattle.mg_link.specs.Link.{Awaited, LogTold}
 use Rattle.mg_link.specs.Log.{Call}
-use Rattle.mg_link.specs.Owner.{IsOf, Owner, Passes}
+use Rattle.mg_server.specs.Owner.{IsOf, Owner, Passes}
 use Rattle.mg_players.specs.Causes.{sent_since}
 use Rattle.mg_players.specs.Drawing.{sent_from, supply_from}
 use Rattle.mg_players.specs.Follows.{Placing, same_place}

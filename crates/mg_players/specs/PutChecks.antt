@@ -1,7 +1,7 @@
 -- The commands of the check of a put's bucket, in their order, and what was heard to them.
 use Rattle.std.specs.Prelude.{◌≡◌, ◌⊎◌, ◌≤◌, ◌++◌, ℕ, ℤ, Bool, true, false, List, [], ◌∷◌, replicate}
 use Rattle.mg_bson.specs.Tree.{Fields}
-use Rattle.mg_link.specs.Calls.{Past}
+use Rattle.mg_server.specs.Calls.{Past}
 use Rattle.mg_link.specs.Exec.{Stage, first, second, unsent}
 use Rattle.mg_link.specs.Namespace.{Space}
 use Rattle.mg_options.specs.Fields.{fields_in}

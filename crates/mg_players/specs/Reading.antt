@@ -2,17 +2,17 @@
 use Rattle.std.specs.Prelude.{◌≡◌, ◌≢◌, ◌⊎◌, ◌<◌, ◌≤◌, ◌++◌, Contains, ℕ, suc, ℤ, pos, List, [], ◌∷◌, length, Option, Some, None, Ok, Err, slice_get, take}
 use Rattle.mg_bson.specs.Raw.{fields}
 use Rattle.mg_bson.specs.Tree.{Fields}
-use Rattle.mg_link.specs.Calls.{HeardBy, IsOwn, Past}
-use Rattle.mg_link.specs.Commands.{Asked, asked, asks_query}
+use Rattle.mg_server.specs.Calls.{HeardBy, IsOwn, Past}
+use Rattle.mg_server.specs.Commands.{Asked, asked, asks_query}
 use Rattle.mg_link.specs.Exec.{IsSuccess, Sending, ticket_of}
 use Rattle.mg_link.specs.Errors.{plain}
-use Rattle.mg_link.specs.Files.{Bucket, chunks_space, file_of}
-use Rattle.mg_link.specs.History.{IsLegal, Step, state_of, told_at}
+use Rattle.mg_server.specs.Files.{Bucket, chunks_space, file_of}
+use Rattle.mg_server.specs.History.{IsLegal, Step, state_of, told_at}
 use Rattle.mg_link.specs.Link.{Awaited}
 use Rattle.mg_link.specs.Log.{Call, reply}
-use Rattle.mg_link.specs.Prompt.{IsPrompt}
-use Rattle.mg_link.specs.Query.{Query}
-use Rattle.mg_link.specs.Standing.{OpensId, Stands}
+use Rattle.mg_server.specs.Prompt.{IsPrompt}
+use Rattle.mg_server.specs.Query.{Query}
+use Rattle.mg_server.specs.Standing.{OpensId, Stands}
 use Rattle.mg_link.specs.declared.error.Error.{Error}
 use Rattle.mg_link.specs.declared.error.ErrorKind.TheVariants as kind
 use Rattle.mg_ops.specs.Cursors.{Cursor, cursor_of}

@@ -2,8 +2,8 @@
 use Rattle.std.specs.Prelude.{◌≡◌, ◌↔◌, ◌⊎◌, ◌+◌, ◌≤◌, ◌++◌, IsTrue, Bool, true, ℕ, suc, ℤ, List, [], length, Option, Some, None, slice_get, ◌<◌}
 use Rattle.std.specs.List.{concat, sum_by}
 use Rattle.mg_bson.specs.Tree.{Fields, Tree}
-use Rattle.mg_link.specs.Calls.{Past, past_of, AddsOnly}
-use Rattle.mg_link.specs.Files.{chunks_space}
+use Rattle.mg_server.specs.Calls.{Past, past_of, AddsOnly}
+use Rattle.mg_server.specs.Files.{chunks_space}
 use Rattle.mg_link.specs.Link.{Awaited, LogTold}
 use Rattle.mg_link.specs.Log.{Call}
 use Rattle.mg_link.specs.Namespace.{Space, space, target}
@@ -41,7 +41,7 @@ use Rattle.mg_gridfs.specs.Findings as findings
 use Rattle.mg_gridfs.specs.Findings.{IsSoundFinding, Looking}
 use Rattle.mg_gridfs.specs.ReadCauses as files
 use Rattle.mg_gridfs.specs.ReadCauses.{HeardRecord, IsFetching, ReadFails, cursor_in}
-use Rattle.mg_link.specs.Owner.{IsOf}
+use Rattle.mg_server.specs.Owner.{IsOf}
 use Rattle.mg_records.specs.FileRecords.{FileRecord}
 use Rattle.mg_ops.specs.InsertCauses.{HasSent, IsInsertOf}
 use Rattle.mg_ops.specs.InsertSends.{HasSentPieces}

@@ -1,6 +1,6 @@
 //! The bucket that a job names.
 ghost use Rattle.std.specs.Prelude.{◌≡◌, IfErr, IfOk, Some, string_bytes};
-ghost use Rattle.mg_link.specs.Commands.{as_database};
+ghost use Rattle.mg_link.specs.Namespace.{as_database};
 ghost use Rattle.mg_link.specs.Errors.{plain};
 ghost use Rattle.mg_link.specs.declared.error.ErrorKind.TheVariants as kinds;
 ghost use Rattle.mg_gridfs.specs.Buckets.{bucket_of};

@@ -4,7 +4,7 @@ ghost use Rattle.mg_bson.specs.Tree.{Fields};
 ghost use Rattle.mg_link.specs.Acts.{IsOut, Tickets};
 ghost use Rattle.mg_link.specs.Link.{Later};
 ghost use Rattle.mg_link.specs.Namespace.{Space, space};
-ghost use Rattle.mg_link.specs.Owner.{PassesPlain};
+ghost use Rattle.mg_server.specs.Owner.{PassesPlain};
 ghost use Rattle.mg_ops.specs.Drawn.{AreLater, lacking};
 ghost use Rattle.mg_players.specs.Drawing.{next_draws};
 ghost use Rattle.mg_players.specs.Playing.{HasIds, IsPlainInsert, IsPlainJob, IsSameInsert, inserts_ticket, player_ticket};

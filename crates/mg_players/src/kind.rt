@@ -4,7 +4,7 @@ ghost use Rattle.mg_link.specs.Errors.{plain};
 ghost use Rattle.mg_link.specs.declared.error.ErrorKind.TheVariants as kinds;
 ghost use Rattle.mg_link.specs.Link.{Awaited, Later};
 ghost use Rattle.mg_link.specs.Log.{Call};
-ghost use Rattle.mg_link.specs.Owner.{Owner};
+ghost use Rattle.mg_server.specs.Owner.{Owner};
 ghost use Rattle.mg_ops.specs.Drawn.{AreLater};
 ghost use Rattle.mg_script.specs.Plan.{Task};
 ghost use Rattle.mg_script.specs.declared.outcome.Outcome.{Outcome};

@@ -5,9 +5,9 @@ use Rattle.std.specs.Str.{bytes_eq}
 use Rattle.mg_bson.specs.Tree.{Tree, double, string, document, array, binary, undefined, object_id, boolean, date_time, null, regex, db_pointer, script, symbol, scoped, int32, timestamp, int64, decimal128, min_key, max_key, Fields, no_fields, field, Items, no_items, item}
 use Rattle.mg_bson.specs.Find.{as_document, get}
 use Rattle.mg_bson.specs.Reading.{◌>>=◌}
-use Rattle.mg_link.specs.Filter.{begins_with_dollar, document_values, operator_values, values_of}
-use Rattle.mg_link.specs.Commands.{documents_in}
-use Rattle.mg_link.specs.Rules.{id_of, ids_in}
+use Rattle.mg_server.specs.Filter.{begins_with_dollar, document_values, operator_values, values_of}
+use Rattle.mg_server.specs.Commands.{documents_in}
+use Rattle.mg_server.specs.Rules.{id_of, ids_in}
 use Rattle.mg_query.specs.Asking.{ahead, begins_operator, documents_among, ids_among, is_single, only_document}
 
 one_more : {A : Type 0} (o : Option A) (r : Option (List A)) (xs : List A) → (is_some r ≡ true → r ≡ Some xs) → is_some (option_and_then (λ x. option_map (λ ys. x ∷ ys) r) o) ≡ true → option_and_then (λ x. option_map (λ ys. x ∷ ys) r) o ≡ Some (ahead o xs)

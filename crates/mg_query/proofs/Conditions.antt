@@ -1,7 +1,7 @@
 -- The conditions of a filter, read one after another.
 use Rattle.std.proofs.Common.{◌≡◌, ℕ, List, [], ◌∷◌, ◌++◌, Option, Some, None, map, option_map, option_and_then, sym, ap, ◌∙◌, append_assoc}
 use Rattle.mg_bson.specs.Tree.{Tree, Fields, field}
-use Rattle.mg_link.specs.Filter.{Condition, condition_of, conditions_of}
+use Rattle.mg_server.specs.Filter.{Condition, condition_of, conditions_of}
 use Rattle.mg_query.specs.Asking.{Keyed, keyed}
 
 abbrev pub behind : List Keyed → Option (List Condition) → Option (List Keyed)

@@ -7,14 +7,15 @@ use Rattle.std.proofs.lemmas.Slice.Eq.{bytes_eq-Decides}
 use Rattle.mg_bson.specs.Tree.{Fields, no_fields, field}
 use Rattle.mg_bson.specs.Find.{get, as_array, as_document}
 use Rattle.mg_bson.specs.Raw.{fields}
-use Rattle.mg_link.specs.Namespace.{Space, Target}
-use Rattle.mg_link.specs.Filter.{Condition, has_dot}
-use Rattle.mg_link.specs.State.{Start, Index}
-use Rattle.mg_link.specs.Commands.{Asked, asks_insert, asks_watch, asks_more, asks_kill, asks_other, as_collection, as_database, as_integer, asked, asked_by, documents_in, filter_stages, flag_or, insert_of, integers_in, kill_of, more_of, space_at, start_of, target_of, text_of, watch_by, watch_from, watch_of, watch_stage_options, or_asks, pipeline_query, update_of, delete_of, find_of, collections_query, indexes_query, create_of, indexing_of, drop_of, further_by, asks_update, asks_delete, asks_create, asks_indexes, asks_drop, has_only, update_parts, update_fields, delete_parts, delete_fields, find_fields, pipeline_fields, collections_fields, indexes_fields, create_fields, indexing_fields, drop_fields, filter_at, one_at, modification_of, update_by, delete_by, many_by, count_of, database_at, asks_query, find_query, piped, stages_in, listing_of, indexes_listed, indexes_in}
+use Rattle.mg_link.specs.Namespace.{Space, Target, has_dot, as_collection, as_database}
+use Rattle.mg_server.specs.Filter.{Condition}
+use Rattle.mg_server.specs.State.{Start, Index}
+use Rattle.mg_link.specs.Numbers.{as_integer, count_of}
+use Rattle.mg_server.specs.Commands.{Asked, asks_insert, asks_watch, asks_more, asks_kill, asks_other, asked, asked_by, documents_in, filter_stages, flag_or, insert_of, integers_in, kill_of, more_of, space_at, start_of, target_of, text_of, watch_by, watch_from, watch_of, watch_stage_options, or_asks, pipeline_query, update_of, delete_of, find_of, collections_query, indexes_query, create_of, indexing_of, drop_of, further_by, asks_update, asks_delete, asks_create, asks_indexes, asks_drop, has_only, update_parts, update_fields, delete_parts, delete_fields, find_fields, pipeline_fields, collections_fields, indexes_fields, create_fields, indexing_fields, drop_fields, filter_at, one_at, modification_of, update_by, delete_by, many_by, database_at, asks_query, find_query, piped, stages_in, listing_of, indexes_listed, indexes_in}
 use Rattle.mg_query.specs.Continued.{continued, continued_by, is_about_cursors, is_cursor_command}
 use Rattle.mg_bson.specs.Reading.{◌>>=◌}
-use Rattle.mg_link.specs.Query.{Query}
-use Rattle.mg_link.specs.Write.{Modification}
+use Rattle.mg_server.specs.Query.{Query}
+use Rattle.mg_server.specs.Write.{Modification}
 
 abbrev goes_on : Option Asked → Option ℤ
 goes_on found = continued (unwrap_or found asks_other)

@@ -12,7 +12,7 @@ use Rattle.std.proofs.lemmas.Slice.Eq.{bytes_eq-Decides}
 use Rattle.mg_bson.specs.Tree.{Tree, Fields}
 use Rattle.mg_bson.specs.Find.{get}
 use Rattle.mg_bson.specs.Raw.{fields}
-use Rattle.mg_link.specs.Filter.{key}
+use Rattle.mg_server.specs.Filter.{key}
 use Rattle.mg_link.specs.declared.error.OutOfMemory.{OutOfMemory}
 use Rattle.mg_query.specs.Asking.{Keyed, has_key, is_key_among, matches_keys}
 use Rattle.mg_query.specs.Collecting.{Covers, is_in}

@@ -8,7 +8,7 @@ use Rattle.mg_bson.specs.Bytes.{bytes}
 use Rattle.mg_bson.specs.Raw.{fields}
 use Rattle.mg_bson.specs.Find.{with_item, items_joined}
 use Rattle.mg_bson.proofs.Joining.{items_joined_more, items_joined_all}
-use Rattle.mg_link.specs.Rules.{batch_of_query, documents_of_items, held_in}
+use Rattle.mg_server.specs.Rules.{batch_of_query, documents_of_items, held_in}
 use Rattle.mg_query.specs.Querying.{GivesDocuments, is_none}
 
 -- how many of the rest a batch holds that may have so many more

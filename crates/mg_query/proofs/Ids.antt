@@ -9,8 +9,8 @@ use Rattle.std.proofs.lemmas.Map.Text.{is_eq-slice_cmp}
 use Rattle.std.proofs.lemmas.Slice.Eq.{bytes_eq-Decides}
 use Rattle.mg_bson.specs.Tree.{Tree, Fields}
 use Rattle.mg_bson.specs.Find.{get}
-use Rattle.mg_link.specs.Filter.{key}
-use Rattle.mg_link.specs.Rules.{accept, bad_request, duplicate_id, has_id, id_or_code, is_storable, same_id}
+use Rattle.mg_server.specs.Filter.{key}
+use Rattle.mg_server.specs.Rules.{accept, bad_request, duplicate_id, has_id, id_or_code, is_storable, same_id}
 use Rattle.mg_query.specs.Numbering.{HaveNewIds, IsExact, IsKeyed, document_of, has_this, holds_id, is_of_id, vec_cmp}
 use Rattle.mg_query.specs.declared.collection.KeyedDocument.{KeyedDocument}
 

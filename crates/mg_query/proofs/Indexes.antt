@@ -4,9 +4,9 @@ use Rattle.mg_bson.specs.Tree.{Tree, Fields, Items, no_items, item}
 use Rattle.mg_bson.specs.Find.{as_document}
 use Rattle.mg_bson.specs.Reading.{◌>>=◌}
 use Rattle.mg_link.specs.Namespace.{Space}
-use Rattle.mg_link.specs.Commands.{documents_in, has_only, index_of, indexes_by, indexing_fields}
-use Rattle.mg_link.specs.Rules.{Request, array_at, create_indexes, indexes_request, named_space}
-use Rattle.mg_link.specs.State.{Index}
+use Rattle.mg_server.specs.Commands.{documents_in, has_only, index_of, indexes_by, indexing_fields}
+use Rattle.mg_server.specs.Rules.{Request, array_at, create_indexes, indexes_request, named_space}
+use Rattle.mg_server.specs.State.{Index}
 use Rattle.mg_query.specs.Indexing.{indexes_among}
 use Rattle.mg_query.specs.Wanted.{Indexing, indexing_of}
 

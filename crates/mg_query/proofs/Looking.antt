@@ -17,7 +17,7 @@ use Rattle.std.proofs.lemmas.Slice.Eq.{bytes_eq-Decides}
 use Rattle.mg_bson.specs.Tree.{Tree, Fields}
 use Rattle.mg_bson.specs.Raw.{fields}
 use Rattle.mg_bson.specs.Find.{get}
-use Rattle.mg_link.specs.Filter.{key}
+use Rattle.mg_server.specs.Filter.{key}
 use Rattle.mg_query.specs.Asking.{Keyed, ahead, has_key, held, matches_keys, meets_keys}
 use Rattle.mg_query.specs.Collecting.{Covers, is_in, looked_up}
 use Rattle.mg_query.specs.Numbering.{IsNumbered, KeepsIds, has_this, is_number, is_of_id, number_in, stored}

@@ -11,10 +11,11 @@ use Rattle.mg_bson.specs.Reading.{◌>>=◌}
 use Rattle.mg_bson.specs.Bytes.{bytes}
 use Rattle.mg_bson.specs.Writable.{max_len}
 use Rattle.mg_link.specs.Namespace.{Space}
-use Rattle.mg_link.specs.Filter.{Condition, conditions_of}
-use Rattle.mg_link.specs.Commands.{begin_without_dollar, count_of, delete_by, delete_fields, delete_parts, flag_or, has_only, many_by, may_set, modification_of, one_at, setting, update_by, update_fields, update_parts}
-use Rattle.mg_link.specs.Rules.{Request, delete, delete_request, named_space, update, update_request, same_id, set_anew}
-use Rattle.mg_link.specs.Write.{Modification, sets, puts, differs, modified}
+use Rattle.mg_server.specs.Filter.{Condition, conditions_of}
+use Rattle.mg_link.specs.Numbers.{count_of}
+use Rattle.mg_server.specs.Commands.{begin_without_dollar, delete_by, delete_fields, delete_parts, flag_or, has_only, many_by, may_set, modification_of, one_at, setting, update_by, update_fields, update_parts}
+use Rattle.mg_server.specs.Rules.{Request, delete, delete_request, named_space, update, update_request, same_id, set_anew}
+use Rattle.mg_server.specs.Write.{Modification, sets, puts, differs, modified}
 use Rattle.mg_query.specs.Asking.{Keyed, keyed, only_document}
 use Rattle.mg_query.specs.Wanted as wants
 use Rattle.mg_query.specs.Wanted.{Deleting, Updating, deleting_by, deleting_of, updating_by, updating_of, wanted}

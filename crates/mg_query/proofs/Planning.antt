@@ -5,10 +5,10 @@ use Rattle.mg_bson.specs.Tree.{Fields, Items}
 use Rattle.mg_bson.specs.Find.{get}
 use Rattle.mg_bson.specs.Reading.{◌>>=◌}
 use Rattle.mg_link.specs.Namespace.{Space}
-use Rattle.mg_link.specs.Commands.{batch_size, documents_in, find_fields, find_stages, flag_or, has_only, optional_count, pipeline_fields, pipeline_of, query_by, collections_fields, indexes_fields, optional_size, selecting, stages_by}
-use Rattle.mg_link.specs.Query.{Stage, of_collection, of_database, of_indexes}
-use Rattle.mg_link.specs.Rules as rules
-use Rattle.mg_link.specs.Rules.{array_at, find_request, named_space, pipeline_request, list_collections_request, list_indexes_request, named_database}
+use Rattle.mg_server.specs.Commands.{batch_size, documents_in, find_fields, find_stages, flag_or, has_only, optional_count, pipeline_fields, pipeline_of, query_by, collections_fields, indexes_fields, optional_size, selecting, stages_by}
+use Rattle.mg_server.specs.Query.{Stage, of_collection, of_database, of_indexes}
+use Rattle.mg_server.specs.Rules as rules
+use Rattle.mg_server.specs.Rules.{array_at, find_request, named_space, pipeline_request, list_collections_request, list_indexes_request, named_database}
 use Rattle.mg_query.specs.Querying.{Doing, doing, pipeline_doing}
 use Rattle.mg_query.specs.Wanted.{Plan, Wanted, collections_list_of, find, found_of, indexes_list_of, piped_of, plan_of, wanted}
 

@@ -12,7 +12,7 @@ use Rattle.std.proofs.lemmas.Map.Text.{is_eq-slice_cmp}
 use Rattle.std.proofs.lemmas.Slice.Eq.{bytes_eq-Decides}
 use Rattle.mg_bson.specs.Tree.{Tree, Fields}
 use Rattle.mg_bson.specs.Find.{get}
-use Rattle.mg_link.specs.Filter.{key}
+use Rattle.mg_server.specs.Filter.{key}
 use Rattle.mg_query.specs.Asking.{Keyed, has_key, held, is_key_among, matches_keys, meets_keys}
 use Rattle.mg_query.specs.Numbering.{vec_cmp}
 use Rattle.mg_query.specs.Querying.{chosen_by}

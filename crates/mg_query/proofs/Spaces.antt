@@ -7,7 +7,7 @@ use Rattle.std.specs.Ordering.{ordering_then}
 use Rattle.std.specs.String.{string_cmp}
 use Rattle.mg_link.specs.declared.namespace.Namespace.{Namespace}
 use Rattle.mg_link.specs.Namespace.{space}
-use Rattle.mg_link.specs.State.{space_cmp}
+use Rattle.mg_server.specs.State.{space_cmp}
 
 abbrev pub ns_cmp : Namespace → Namespace → Ordering
 ns_cmp a b = ordering_then (string_cmp a.db b.db) (string_cmp a.coll b.coll)

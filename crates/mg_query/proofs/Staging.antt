@@ -6,9 +6,10 @@ use Rattle.std.specs.Str.{bytes_eq}
 use Rattle.mg_bson.specs.Tree.{Tree, Fields, no_fields, field, Items, item}
 use Rattle.mg_bson.specs.Find.{as_document, get}
 use Rattle.mg_bson.specs.Reading.{◌>>=◌}
-use Rattle.mg_link.specs.Commands.{as_integer, documents_in, find_stages, pipeline_of, stage_of, keys_of, projection_of, rising_by, showing_by, stage_by, stages_by}
-use Rattle.mg_link.specs.Filter.{is_top_name}
-use Rattle.mg_link.specs.Query.{Key, Stage}
+use Rattle.mg_link.specs.Numbers.{as_integer}
+use Rattle.mg_server.specs.Commands.{documents_in, find_stages, pipeline_of, stage_of, keys_of, projection_of, rising_by, showing_by, stage_by, stages_by}
+use Rattle.mg_server.specs.Filter.{is_top_name}
+use Rattle.mg_server.specs.Query.{Key, Stage}
 use Rattle.mg_query.specs.Asking.{is_single}
 use Rattle.mg_query.specs.Querying.{Doing, doing, joined_stages, one_key, pipeline_doing}
 

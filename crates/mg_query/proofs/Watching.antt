@@ -5,11 +5,11 @@ use Rattle.mg_bson.specs.Tree.{Fields, no_fields, field, Items, no_items, item}
 use Rattle.mg_bson.specs.Find.{as_document, get}
 use Rattle.mg_bson.specs.Reading.{◌>>=◌}
 use Rattle.mg_link.specs.Namespace.{Target}
-use Rattle.mg_link.specs.Filter.{Condition, conditions_of}
-use Rattle.mg_link.specs.State.{Start}
-use Rattle.mg_link.specs.Commands.{batch_size, documents_in, filter_stages, flag_or, has_only, match_stage, pipeline_fields, start_of, watch_stage_options}
-use Rattle.mg_link.specs.Rules as rules
-use Rattle.mg_link.specs.Rules.{array_at, behind_first, option_names, target_at, watch_options, watch_request, watch_with}
+use Rattle.mg_server.specs.Filter.{Condition, conditions_of}
+use Rattle.mg_server.specs.State.{Start}
+use Rattle.mg_server.specs.Commands.{batch_size, documents_in, filter_stages, flag_or, has_only, match_stage, pipeline_fields, start_of, watch_stage_options}
+use Rattle.mg_server.specs.Rules as rules
+use Rattle.mg_server.specs.Rules.{array_at, behind_first, option_names, target_at, watch_options, watch_request, watch_with}
 use Rattle.mg_query.specs.Asking.{Keyed, keyed, only_document}
 use Rattle.mg_query.specs.Wanted.{wanted, watch, Stages, Opening, conditions_at, opening_of, opening_with, stages_of}
 

@@ -4,7 +4,7 @@ use Rattle.std.proofs.lemmas.List.{drop_more, drop_all}
 use Rattle.mg_bson.specs.Tree.{Tree, string, Items, item}
 use Rattle.mg_bson.specs.Find.{with_item, items_joined}
 use Rattle.mg_bson.proofs.Joining.{items_joined_more, items_joined_all}
-use Rattle.mg_link.specs.Rules.{words_of}
+use Rattle.mg_server.specs.Rules.{words_of}
 
 pub words_go_on : {A : Type 0} (f : A → List ℕ) (front after : Items) (ls : List A) (i : ℕ) (l : A) (v : Tree) (all : Items) → i < length ls → l ≡ get_or ls i l → v ≡ string (f l) → after ≡ with_item front v
     → items_joined front (words_of (map f (drop i ls))) ≡ all → items_joined after (words_of (map f (drop (i + 1) ls))) ≡ all

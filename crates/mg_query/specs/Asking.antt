@@ -4,9 +4,9 @@ use Rattle.std.specs.Str.{bytes_eq}
 use Rattle.mg_bson.specs.Tree.{Tree, Fields, no_fields, field, Items, no_items, item}
 use Rattle.mg_bson.specs.Find.{as_document, get}
 use Rattle.mg_link.specs.Namespace.{Space, Target, database, collection, cluster}
-use Rattle.mg_link.specs.Filter as filter
-use Rattle.mg_link.specs.Filter.{begins_with_dollar, key}
-use Rattle.mg_link.specs.Rules.{id_of}
+use Rattle.mg_server.specs.Filter as filter
+use Rattle.mg_server.specs.Filter.{begins_with_dollar, key}
+use Rattle.mg_server.specs.Rules.{id_of}
 use Rattle.mg_query.specs.declared.reading.LentSpace.{LentSpace}
 use Rattle.mg_query.specs.declared.reading.LentTarget.{LentTarget}
 use Rattle.mg_query.specs.declared.reading.LentTarget.TheVariants as lent

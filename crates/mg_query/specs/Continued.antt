@@ -3,7 +3,8 @@ use Rattle.std.specs.Prelude.{ℤ, Bool, true, false, Option, Some, None, codes,
 use Rattle.std.specs.Str.{bytes_eq}
 use Rattle.mg_bson.specs.Tree.{Fields, no_fields, field}
 use Rattle.mg_bson.specs.Find.{get}
-use Rattle.mg_link.specs.Commands.{Asked, asks_kill, asks_more, as_integer, space_at}
+use Rattle.mg_link.specs.Numbers.{as_integer}
+use Rattle.mg_server.specs.Commands.{Asked, asks_kill, asks_more, space_at}
 
 -- the command asks about cursors
 abbrev pub is_about_cursors : Asked → Bool

@@ -7,7 +7,7 @@ use Rattle.std.specs.Str.{bytes_eq}
 use Rattle.mg_bson.specs.Tree.{Tree, Fields}
 use Rattle.mg_bson.specs.Find.{get}
 use Rattle.mg_bson.specs.Raw.{fields}
-use Rattle.mg_link.specs.Filter.{key}
+use Rattle.mg_server.specs.Filter.{key}
 use Rattle.mg_query.specs.declared.groups.Groups.{Groups}
 
 -- the encoding is this, and the number too

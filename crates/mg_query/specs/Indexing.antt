@@ -3,8 +3,8 @@ use Rattle.std.specs.Prelude.{List, Option, string_bytes}
 use Rattle.mg_bson.specs.Tree.{Items}
 use Rattle.mg_bson.specs.Raw.{fields}
 use Rattle.mg_bson.specs.Reading.{◌>>=◌}
-use Rattle.mg_link.specs.Commands.{documents_in, indexes_by}
-use Rattle.mg_link.specs.State.{Index}
+use Rattle.mg_server.specs.Commands.{documents_in, indexes_by}
+use Rattle.mg_server.specs.State.{Index}
 use Rattle.mg_query.specs.declared.index.Index as code
 
 -- the index that the code holds

@@ -4,7 +4,7 @@ use Rattle.std.specs.List.{filter}
 use Rattle.std.specs.Str.{bytes_eq}
 use Rattle.mg_bson.specs.Tree.{Fields}
 use Rattle.mg_link.specs.Namespace.{Space}
-use Rattle.mg_link.specs.Query.{collection_listed}
+use Rattle.mg_server.specs.Query.{collection_listed}
 
 -- what a list says of a collection of this name
 abbrev pub name_listed : Space → Fields

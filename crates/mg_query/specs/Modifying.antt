@@ -4,7 +4,7 @@ use Rattle.mg_bson.specs.Raw.{fields}
 use Rattle.mg_bson.specs.Tree.{Fields}
 use Rattle.mg_bson.specs.Bytes.{bytes}
 use Rattle.mg_bson.specs.Writable.{max_len}
-use Rattle.mg_link.specs.Write.{Modification, sets, puts, differs, modified}
+use Rattle.mg_server.specs.Write.{Modification, sets, puts, differs, modified}
 use Rattle.mg_query.specs.declared.modification.Modification as code
 use Rattle.mg_query.specs.declared.modification.Modification.TheVariants as modifications
 use Rattle.mg_query.specs.declared.refusal.Refusal.TheVariants as refusals

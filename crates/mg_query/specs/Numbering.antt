@@ -12,8 +12,8 @@ use Rattle.mg_bson.specs.Tree.{Tree, Fields}
 use Rattle.mg_bson.specs.Bytes.{bytes}
 use Rattle.mg_bson.specs.Raw.{fields}
 use Rattle.mg_bson.specs.Find.{get}
-use Rattle.mg_link.specs.Filter.{key}
-use Rattle.mg_link.specs.State.{Index}
+use Rattle.mg_server.specs.Filter.{key}
+use Rattle.mg_server.specs.State.{Index}
 use Rattle.mg_query.specs.Grouping.{AreGrouped}
 use Rattle.mg_query.specs.Indexing.{index_held}
 use Rattle.mg_query.specs.declared.groups.Groups.{Groups}

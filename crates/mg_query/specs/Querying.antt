@@ -7,11 +7,12 @@ use Rattle.mg_bson.specs.Tree.{Tree, Fields, Items}
 use Rattle.mg_bson.specs.Find.{get, without}
 use Rattle.mg_bson.specs.Raw.{fields}
 use Rattle.mg_bson.specs.Reading.{◌>>=◌}
-use Rattle.mg_link.specs.Commands.{as_integer, documents_in, pipeline_of, rising_by}
-use Rattle.mg_link.specs.Filter.{is_top_name}
-use Rattle.mg_link.specs.Query as query
-use Rattle.mg_link.specs.Query.{Key, can_sort, comes_first, id_alone, order_by, sorted}
-use Rattle.mg_link.specs.Rules.{batch_of_query, documents_of_items}
+use Rattle.mg_link.specs.Numbers.{as_integer}
+use Rattle.mg_server.specs.Commands.{documents_in, pipeline_of, rising_by}
+use Rattle.mg_server.specs.Filter.{is_top_name}
+use Rattle.mg_server.specs.Query as query
+use Rattle.mg_server.specs.Query.{Key, can_sort, comes_first, id_alone, order_by, sorted}
+use Rattle.mg_server.specs.Rules.{batch_of_query, documents_of_items}
 use Rattle.mg_query.specs.Asking.{Keyed, held, keyed, matches_keys}
 use Rattle.mg_query.specs.declared.batch.Batch.{Batch}
 use Rattle.mg_query.specs.declared.refusal.Refusal.TheVariants as refusals

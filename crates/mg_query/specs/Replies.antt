@@ -5,7 +5,7 @@ use Rattle.mg_bson.specs.Bytes.{bytes, levels}
 use Rattle.mg_bson.specs.Raw.{fields}
 use Rattle.mg_bson.specs.Literal.{◌⇒◌⨾◌, empty}
 use Rattle.mg_link.specs.Namespace.{Space}
-use Rattle.mg_link.specs.Rules.{cursor_fields, max_reply}
+use Rattle.mg_server.specs.Rules.{cursor_fields, max_reply}
 
 -- a reply is no larger and no deeper than one may be
 abbrev pub fits : Fields → Bool

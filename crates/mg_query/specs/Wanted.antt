@@ -6,16 +6,17 @@ use Rattle.mg_bson.specs.Raw.{fields, items}
 use Rattle.mg_bson.specs.RawView.{value}
 use Rattle.mg_bson.specs.Reading.{◌>>=◌}
 use Rattle.mg_link.specs.Namespace.{Space, Target}
-use Rattle.mg_link.specs.Filter.{Condition, conditions_of}
-use Rattle.mg_link.specs.State.{Index, Start, nowhere, after, at_time, time_of}
-use Rattle.mg_link.specs.Rules as rules
-use Rattle.mg_link.specs.Commands.{batch_size, flag_or, has_only, pipeline_fields, start_of, indexing_fields, find_fields, find_stages, optional_count, collections_fields, indexes_fields, optional_size, selecting, stages_by, update_parts, update_fields, delete_parts, delete_fields, modification_of, one_at, count_of, many_by}
-use Rattle.mg_link.specs.Rules.{array_at, map_ok, option_names, target_at, named_space, named_database}
+use Rattle.mg_server.specs.Filter.{Condition, conditions_of}
+use Rattle.mg_server.specs.State.{Index, Start, nowhere, after, at_time, time_of}
+use Rattle.mg_server.specs.Rules as rules
+use Rattle.mg_link.specs.Numbers.{count_of}
+use Rattle.mg_server.specs.Commands.{batch_size, flag_or, has_only, pipeline_fields, start_of, indexing_fields, find_fields, find_stages, optional_count, collections_fields, indexes_fields, optional_size, selecting, stages_by, update_parts, update_fields, delete_parts, delete_fields, modification_of, one_at, many_by}
+use Rattle.mg_server.specs.Rules.{array_at, map_ok, option_names, target_at, named_space, named_database}
 use Rattle.mg_query.specs.Asking.{Keyed, documents_among, held, ids_among, keyed, lent_space, lent_target, only_document}
 use Rattle.mg_query.specs.declared.watch.LentStart.{LentStart}
 use Rattle.mg_query.specs.declared.watch.LentStart.TheVariants as starts
 use Rattle.mg_query.specs.Indexing.{index_held}
-use Rattle.mg_link.specs.Query.{Source, of_collection, of_database, of_indexes}
+use Rattle.mg_server.specs.Query.{Source, of_collection, of_database, of_indexes}
 use Rattle.mg_query.specs.Querying.{Doing, doing, held_stage, pipeline_doing}
 use Rattle.mg_query.specs.declared.query.Plan as code_plan
 use Rattle.mg_query.specs.declared.request.Request.{Request}
@@ -31,7 +32,7 @@ use Rattle.mg_query.specs.declared.write.Updating as code_updating
 use Rattle.mg_query.specs.declared.write.Deleting as code_deleting
 use Rattle.mg_query.specs.declared.write.Write.{Write}
 use Rattle.mg_query.specs.declared.write.Write.TheVariants as writes
-use Rattle.mg_link.specs.Write.{Modification}
+use Rattle.mg_server.specs.Write.{Modification}
 use Rattle.mg_query.specs.Modifying.{lent_modification}
 
 pub data Wanted : Type 0 where

@@ -1,8 +1,8 @@
 //! What commands on collections and their indexes ask for.
 ghost use Rattle.std.specs.Prelude.{◌≡◌, IfOk, option_map};
 ghost use Rattle.mg_bson.specs.Raw.{fields};
-ghost use Rattle.mg_link.specs.Commands.{optional_size};
-ghost use Rattle.mg_link.specs.Rules.{create_request, indexes_request, drop_request, list_collections_request, list_indexes_request};
+ghost use Rattle.mg_server.specs.Commands.{optional_size};
+ghost use Rattle.mg_server.specs.Rules.{create_request, indexes_request, drop_request, list_collections_request, list_indexes_request};
 ghost use Rattle.mg_query.specs.Wanted.{lent_request, wanted, indexing_of, lent_indexing, lent_plan, collections_list_of, indexes_list_of, listed_database, listing_plan};
 
 use crate::index::indexes_in;
@@ -15,7 +15,7 @@ use mg_bson::{RawArray, RawDocument};
 use mg_link::OutOfMemory;
 use std::alloc::Global;
 
-#[tactic(auto, unfolding(mg_link::specs::Rules::create_request))]
+#[tactic(auto, unfolding(mg_server::specs::Rules::create_request))]
 pub(crate) fn create_of<'a>(command: &RawDocument<'a>) -> Option<Request<'a>>
     ensures { option_map lent_request result ≡ option_map wanted (create_request (fields command.now)) }
 {
@@ -63,7 +63,7 @@ pub(crate) fn create_indexes_of<'a>(
     }
 }
 
-#[tactic(auto, unfolding(mg_link::specs::Rules::drop_request))]
+#[tactic(auto, unfolding(mg_server::specs::Rules::drop_request))]
 pub(crate) fn drop_of<'a>(command: &RawDocument<'a>) -> Option<Request<'a>>
     ensures { option_map lent_request result ≡ option_map wanted (drop_request (fields command.now)) }
 {

@@ -1,8 +1,8 @@
 //! Which commands are about cursors, the cursor that one goes on with, and which refusals end it.
 ghost use Rattle.std.specs.Prelude.{◌≡◌, codes, false, is_some};
 ghost use Rattle.mg_bson.specs.Raw.{fields};
-ghost use Rattle.mg_link.specs.Commands.{asked, space_at};
-ghost use Rattle.mg_link.specs.Step.{ends_cursor};
+ghost use Rattle.mg_server.specs.Commands.{asked, space_at};
+ghost use Rattle.mg_server.specs.Step.{ends_cursor};
 ghost use Rattle.mg_query.specs.Continued.{continued, is_about_cursors, is_cursor_command};
 
 use crate::reading::{has_dot, integer_of, text_at};

@@ -6,7 +6,7 @@ ghost use Rattle.mg_bson.specs.Literal.{◌⇒◌⨾◌, empty};
 ghost use Rattle.mg_bson.specs.Tree.{Fields, array, document, no_items, string};
 ghost use Rattle.mg_bson.specs.View.{tree};
 ghost use Rattle.mg_link.specs.Namespace.{space};
-ghost use Rattle.mg_link.specs.Rules.{deleted_event, document_event, dropped_event, insert_event, invalidate_event, stamp_of, token_of};
+ghost use Rattle.mg_server.specs.Rules.{deleted_event, document_event, dropped_event, insert_event, invalidate_event, stamp_of, token_of};
 
 use crate::reply::{time, token, with, with_text};
 use mg_bson::{Array, Bson, Document};

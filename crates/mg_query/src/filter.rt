@@ -6,7 +6,7 @@ ghost use Rattle.mg_bson.specs.RawView.{value};
 ghost use Rattle.mg_bson.specs.Tree.{document, field, no_fields};
 ghost use Rattle.mg_bson.specs.View.{tree};
 ghost use Rattle.mg_bson.specs.Writable.{IsWritable};
-ghost use Rattle.mg_link.specs.Filter.{begins_with_dollar, condition_of, conditions_of, document_values, is_top_name, key, operator_values, values_of};
+ghost use Rattle.mg_server.specs.Filter.{begins_with_dollar, condition_of, conditions_of, document_values, is_top_name, key, operator_values, values_of};
 ghost use Rattle.mg_query.specs.Asking.{begins_operator, held, keyed, keys_of};
 
 use crate::reading::{has_dot, is_single};

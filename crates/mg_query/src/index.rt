@@ -5,11 +5,11 @@ ghost use Rattle.std.specs.Str.{bytes_eq};
 ghost use Rattle.mg_bson.specs.Find.{as_document};
 ghost use Rattle.mg_bson.specs.Raw.{fields, items};
 ghost use Rattle.mg_bson.specs.RawView.{value};
-ghost use Rattle.mg_link.specs.Commands as commands;
-ghost use Rattle.mg_link.specs.Query.{id_index, index_listed};
-ghost use Rattle.mg_link.specs.Rules.{may_stay};
-ghost use Rattle.mg_link.specs.State as state;
-ghost use Rattle.mg_link.specs.Write.{with_index, with_indexes};
+ghost use Rattle.mg_server.specs.Commands as commands;
+ghost use Rattle.mg_server.specs.Query.{id_index, index_listed};
+ghost use Rattle.mg_server.specs.Rules.{may_stay};
+ghost use Rattle.mg_server.specs.State as state;
+ghost use Rattle.mg_server.specs.Write.{with_index, with_indexes};
 ghost use Rattle.mg_query.specs.Indexing.{index_held, indexes_among};
 ghost use Rattle.mg_query.specs.Numbering.{indexes_there};
 

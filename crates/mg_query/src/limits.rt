@@ -1,7 +1,7 @@
 //! How large names, documents and replies may be.
 ghost use Rattle.std.specs.Prelude.{◌≡◌, IfOk};
 ghost use Rattle.mg_bson.specs.Bytes.{bytes};
-ghost use Rattle.mg_link.specs.Rules.{may_be_given, may_stay};
+ghost use Rattle.mg_server.specs.Rules.{may_be_given, may_stay};
 
 use mg_bson::{BsonError, Document, RawDocumentBuf, to_bytes};
 use mg_link::OutOfMemory;

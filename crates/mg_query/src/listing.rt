@@ -4,9 +4,9 @@ ghost use Rattle.std.specs.BTreeMap.{keys};
 ghost use Rattle.std.specs.List.Sorted.{IsStrictlySortedBy};
 ghost use Rattle.mg_bson.specs.Raw.{fields};
 ghost use Rattle.mg_link.specs.Namespace.{space};
-ghost use Rattle.mg_link.specs.Query.{of_database};
-ghost use Rattle.mg_link.specs.Rules.{query_space};
-ghost use Rattle.mg_link.specs.State.{space_cmp};
+ghost use Rattle.mg_server.specs.Query.{of_database};
+ghost use Rattle.mg_server.specs.Rules.{query_space};
+ghost use Rattle.mg_server.specs.State.{space_cmp};
 ghost use Rattle.mg_query.specs.Listing.{name_listed, names_listed};
 
 use crate::collection::Collection;

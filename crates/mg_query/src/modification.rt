@@ -5,9 +5,9 @@ ghost use Rattle.mg_bson.specs.Find as find;
 ghost use Rattle.mg_bson.specs.Raw.{fields};
 ghost use Rattle.mg_bson.specs.View.{tree};
 ghost use Rattle.mg_bson.specs.Find.{get, with_field};
-ghost use Rattle.mg_link.specs.Commands.{begin_without_dollar, may_set, modification_of};
-ghost use Rattle.mg_link.specs.Write.{modified, with_fields, with_id};
-ghost use Rattle.mg_link.specs.Rules.{same_id, set_anew};
+ghost use Rattle.mg_server.specs.Commands.{begin_without_dollar, may_set, modification_of};
+ghost use Rattle.mg_server.specs.Write.{modified, with_fields, with_id};
+ghost use Rattle.mg_server.specs.Rules.{same_id, set_anew};
 ghost use Rattle.mg_query.specs.Modifying.{lent_modification, AltersOr, EncodesOr};
 
 use crate::copies::{encoded, owned, tree_of};

@@ -1,7 +1,7 @@
 //! What finds and aggregates ask for.
 ghost use Rattle.std.specs.Prelude.{◌≡◌, IfOk, option_map};
 ghost use Rattle.mg_bson.specs.Raw.{fields};
-ghost use Rattle.mg_link.specs.Rules.{find_request, aggregate_request, pipeline_request};
+ghost use Rattle.mg_server.specs.Rules.{find_request, aggregate_request, pipeline_request};
 ghost use Rattle.mg_query.specs.Asking.{lent_space};
 ghost use Rattle.mg_query.specs.Wanted.{lent_request, wanted, find_space, found_of, giving_of, lent_plan, plan_of, pipeline_plan, pipeline_space, piped_of};
 

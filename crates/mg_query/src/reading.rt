@@ -3,11 +3,11 @@ ghost use Rattle.std.specs.Prelude.{◌≡◌, None, codes, map, is_some, IfOk, 
 ghost use Rattle.mg_bson.specs.Find.{as_document, get};
 ghost use Rattle.mg_bson.specs.Raw.{fields, items, items_left};
 ghost use Rattle.mg_bson.specs.RawView.{value};
-ghost use Rattle.mg_link.specs.Commands.{as_integer, batch_size, count_of, documents_in, flag_or, has_only, ignored, is_name_among, one_at, one_in, optional_count, target_by, text_of, whole_target};
-ghost use Rattle.mg_link.specs.Filter.{has_dot};
-ghost use Rattle.mg_link.specs.Namespace.{database, space, target};
-ghost use Rattle.mg_link.specs.State.{is_space};
-ghost use Rattle.mg_link.specs.Rules.{array_at, id_of, ids_in, name_at, named_database, named_space, target_at, watch_space};
+ghost use Rattle.mg_link.specs.Numbers.{as_integer, count_of};
+ghost use Rattle.mg_server.specs.Commands.{batch_size, documents_in, flag_or, has_only, ignored, is_name_among, one_at, one_in, optional_count, target_by, text_of, whole_target};
+ghost use Rattle.mg_link.specs.Namespace.{has_dot, database, space, target};
+ghost use Rattle.mg_server.specs.State.{is_space};
+ghost use Rattle.mg_server.specs.Rules.{array_at, id_of, ids_in, name_at, named_database, named_space, target_at, watch_space};
 ghost use Rattle.mg_query.specs.Asking.{documents_among, ids_among, is_single, lent_space, lent_target, only_document};
 ghost use Rattle.mg_query.specs.Wanted.{IsEnd, limit_many};
 
@@ -182,7 +182,7 @@ fn name_at<'a>(command: &RawDocument<'a>, field: &str) -> Option<&'a str>
 }
 
 /// The namespace of the collection that the field names.
-#[tactic(auto, unfolding(mg_link::specs::Rules::named_space))]
+#[tactic(auto, unfolding(mg_server::specs::Rules::named_space))]
 pub(crate) fn space_at<'a>(command: &RawDocument<'a>, field: &str) -> Option<LentSpace<'a>>
     ensures { option_map lent_space result ≡ named_space field.now (fields command.now) }
 {
@@ -281,7 +281,7 @@ pub(crate) fn count_at(document: &RawDocument<'_>, field: &str) -> Option<Option
 }
 
 /// The batch size that the field `cursor` of a command asks for.
-#[tactic(auto, unfolding(mg_link::specs::Commands::batch_size))]
+#[tactic(auto, unfolding(mg_server::specs::Commands::batch_size))]
 pub(crate) fn batch_size(command: &RawDocument<'_>) -> Option<Option<u64>>
     ensures { result ≡ batch_size (fields command.now) }
 {

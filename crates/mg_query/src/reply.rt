@@ -5,7 +5,7 @@ ghost use Rattle.mg_bson.specs.Literal.{◌⇒◌⨾◌, empty, word};
 ghost use Rattle.mg_bson.specs.Tree.{array, document, field, int32, string, timestamp};
 ghost use Rattle.mg_bson.specs.View.{tree};
 ghost use Rattle.mg_link.specs.Namespace.{space};
-ghost use Rattle.mg_link.specs.Rules.{cursor_fields, done_reply, errors_field, number_of, refusal, stamp_of, token_fields, token_of, updated_reply, words_of, deleted_reply};
+ghost use Rattle.mg_server.specs.Rules.{cursor_fields, done_reply, errors_field, number_of, refusal, stamp_of, token_fields, token_of, updated_reply, words_of, deleted_reply};
 ghost use Rattle.mg_query.specs.Replies.{Written, killed_with, found_with};
 
 use crate::limits::MAX_REPLY;

@@ -1,7 +1,7 @@
 //! What a command asks of the store.
 ghost use Rattle.std.specs.Prelude.{◌≡◌, option_map};
 ghost use Rattle.mg_bson.specs.Raw.{fields};
-ghost use Rattle.mg_link.specs.Rules.{kill_request, more_request, request_of, some_size};
+ghost use Rattle.mg_server.specs.Rules.{kill_request, more_request, request_of, some_size};
 ghost use Rattle.mg_query.specs.Wanted.{Asks, OrBadRequest, lent_request, wanted};
 
 use crate::catalog::{create_indexes_of, create_of, drop_of, list_collections_of, list_indexes_of};
@@ -81,7 +81,7 @@ fn some_size(size: Option<u64>) -> Option<u64>
     }
 }
 
-#[tactic(auto, unfolding(mg_link::specs::Rules::more_request))]
+#[tactic(auto, unfolding(mg_server::specs::Rules::more_request))]
 fn get_more_of<'a>(command: &RawDocument<'a>) -> Option<Request<'a>>
     ensures { option_map lent_request result ≡ option_map wanted (more_request (fields command.now)) }
 {
@@ -98,7 +98,7 @@ fn get_more_of<'a>(command: &RawDocument<'a>) -> Option<Request<'a>>
     })
 }
 
-#[tactic(auto, unfolding(mg_link::specs::Rules::kill_request))]
+#[tactic(auto, unfolding(mg_server::specs::Rules::kill_request))]
 fn kill_cursors_of<'a>(command: &RawDocument<'a>) -> Option<Request<'a>>
     ensures { option_map lent_request result ≡ option_map wanted (kill_request (fields command.now)) }
 {

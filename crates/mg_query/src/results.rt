@@ -4,7 +4,7 @@ ghost use Rattle.std.specs.List.{filter};
 ghost use Rattle.mg_bson.specs.Find.{get, without};
 ghost use Rattle.mg_bson.specs.Raw.{fields};
 ghost use Rattle.mg_bson.specs.RawView.{value};
-ghost use Rattle.mg_link.specs.Query.{id_alone};
+ghost use Rattle.mg_server.specs.Query.{id_alone};
 ghost use Rattle.mg_query.specs.Asking.{held, matches_keys};
 ghost use Rattle.mg_query.specs.Numbering.{KeepsIds, KeepsIdsThere, stored, there};
 ghost use Rattle.mg_query.specs.Querying.{Results, all_done, done, held_key, held_stage, sorts, lent};

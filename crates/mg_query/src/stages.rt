@@ -3,7 +3,7 @@ ghost use Rattle.std.specs.Prelude.{◌≡◌, IfOk, codes, map, option_and_then
 ghost use Rattle.mg_bson.specs.Find.{as_document, get};
 ghost use Rattle.mg_bson.specs.Raw.{fields, items};
 ghost use Rattle.mg_bson.specs.RawView.{value};
-ghost use Rattle.mg_link.specs.Commands.{find_stages, keys_of, limiting, projection_of, rising_by, selecting, showing, showing_by, skipping, sorting, stage_by, stage_of, stages_by};
+ghost use Rattle.mg_server.specs.Commands.{find_stages, keys_of, limiting, projection_of, rising_by, selecting, showing, showing_by, skipping, sorting, stage_by, stage_of, stages_by};
 ghost use Rattle.mg_query.specs.Querying.{doing, held_key, held_stages, joined_stages, one_key, one_stage, pipeline_doing};
 
 use crate::filter::{Condition, conditions_of, is_top_name};

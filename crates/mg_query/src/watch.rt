@@ -2,9 +2,9 @@
 ghost use Rattle.std.specs.Prelude.{◌≡◌, IfOk, None, Some, map, option_map, if◌then◌else◌};
 ghost use Rattle.mg_bson.specs.Raw.{fields, items, items_left};
 ghost use Rattle.mg_bson.specs.RawView.{value};
-ghost use Rattle.mg_link.specs.Commands.{as_time, start_of};
-ghost use Rattle.mg_link.specs.Rules.{watch_request};
-ghost use Rattle.mg_link.specs.State.{after, at_time};
+ghost use Rattle.mg_server.specs.Commands.{as_time, start_of};
+ghost use Rattle.mg_server.specs.Rules.{watch_request};
+ghost use Rattle.mg_server.specs.State.{after, at_time};
 ghost use Rattle.mg_query.specs.Asking.{held, keyed, lent_target};
 ghost use Rattle.mg_query.specs.Wanted.{conditions_at, filter_behind, lent_request, lent_opening, lent_stages, lent_start, opening_of, opening_with, stages_at, stages_of, wanted, watch};
 

@@ -1,7 +1,7 @@
 //! Commands that change what is stored; what inserts, updates and deletes ask for.
 ghost use Rattle.std.specs.Prelude.{◌≡◌, IfOk, map, option_map};
 ghost use Rattle.mg_bson.specs.Raw.{fields};
-ghost use Rattle.mg_link.specs.Rules.{insert_request, update_request, delete_request};
+ghost use Rattle.mg_server.specs.Rules.{insert_request, update_request, delete_request};
 ghost use Rattle.mg_query.specs.Asking.{held, lent_space};
 ghost use Rattle.mg_query.specs.Wanted.{lent_request, wanted, update, updating_by, updating_of, lent_updating, deleting_by, deleting_of, lent_deleting};
 ghost use Rattle.mg_query.specs.Modifying.{lent_modification};
@@ -68,7 +68,7 @@ pub enum Write<'a> {
     },
 }
 
-#[tactic(auto, unfolding(mg_link::specs::Rules::insert_request))]
+#[tactic(auto, unfolding(mg_server::specs::Rules::insert_request))]
 pub(crate) fn insert_of<'a>(command: &RawDocument<'a>) -> Option<Request<'a>>
     ensures { option_map lent_request result ≡ option_map wanted (insert_request (fields command.now)) }
 {

@@ -5,7 +5,7 @@ use Rattle.std.specs.Int.{div_ceil}
 use Rattle.std.proofs.lemmas.Bool.{cases_eq, eq-eqb, eqb-true, ne_eqb}
 use Rattle.std.proofs.lemmas.Grind.{div_ceil_times}
 use Rattle.std.proofs.Math.Nat.{add-div_left, add-mod_left, div-eq_of_lt, mod-eq_of_lt, zero-div, zero-mod}
-use Rattle.mg_link.specs.Files.{chunked, chunks_behind, last_chunk}
+use Rattle.mg_link.specs.Chunks.{chunked, chunks_behind, last_chunk}
 use Rattle.mg_records.specs.FileRecords.{chunk_count, chunk_length}
 
 -- a full chunk more

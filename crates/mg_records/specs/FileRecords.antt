@@ -5,7 +5,7 @@ use Rattle.mg_bson.specs.Tree.{Tree, Fields}
 use Rattle.mg_bson.specs.Find.{as_date_time, as_document, as_int32, as_string}
 use Rattle.mg_bson.specs.Reading.{◌>>=◌}
 use Rattle.mg_bson.specs.View.{tree}
-use Rattle.mg_link.specs.Commands.{as_count, count_of}
+use Rattle.mg_link.specs.Numbers.{as_count, count_of}
 use Rattle.mg_link.specs.declared.error.Malformed.{Malformed}
 use Rattle.mg_link.specs.declared.error.Malformed.TheVariants as malformed
 use Rattle.mg_records.specs.Readings.{any_value, needed, optional}

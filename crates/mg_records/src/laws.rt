@@ -1,6 +1,6 @@
 //! What holds of the words, and of the chunks of files.
 ghost use Rattle.std.specs.Prelude.{◌≡◌, ◌<◌, ◌≤◌, ◌+◌, ◌*◌, ℕ, List, Some, length, slice_get};
-ghost use Rattle.mg_link.specs.Files.{chunked};
+ghost use Rattle.mg_link.specs.Chunks.{chunked};
 ghost use Rattle.mg_link.specs.Words.{AreReadBack};
 ghost use Rattle.mg_records.specs.FileRecords.{chunk_count, chunk_length};
 ghost use Rattle.mg_records.specs.EventWords.{namespace_type_word, namespace_types, operation_word, operations};

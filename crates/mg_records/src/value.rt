@@ -135,7 +135,7 @@ impl ReadValue for DateTime {
 
 impl ReadValue for u64 {
     ghost use Rattle.std.specs.Prelude.{ℕ};
-    ghost use Rattle.mg_link.specs.Commands.{count_of};
+    ghost use Rattle.mg_link.specs.Numbers.{count_of};
 
     ghost Seen = { ℕ };
 

@@ -9,9 +9,7 @@ use Rattle.mg_bson.specs.Tree as bson
 use Rattle.mg_bson.specs.Find.{as_timestamp}
 use Rattle.mg_script.specs.declared.fault.Place.{Place}
 use Rattle.mg_script.specs.declared.fault.Place.TheVariants as place
-use Rattle.mg_link.specs.Namespace.{Space, Target, database, collection, cluster, space_of}
-use Rattle.mg_link.specs.Filter.{has_dot}
-use Rattle.mg_link.specs.Commands.{as_database}
+use Rattle.mg_link.specs.Namespace.{Space, Target, database, collection, cluster, space_of, has_dot, as_database}
 use Rattle.mg_script.specs.Plan as plans
 use Rattle.mg_script.specs.Plan.{Task, Begin, Lot, Fated, Plan}
 use Rattle.mg_script.specs.Reads.{◌>>=◌, found, guard, each}

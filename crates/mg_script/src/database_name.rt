@@ -1,6 +1,6 @@
 //! Names of databases.
 ghost use Rattle.std.specs.Prelude.{◌≡◌, Some, string_bytes};
-ghost use Rattle.mg_link.specs.Commands.{as_database};
+ghost use Rattle.mg_link.specs.Namespace.{as_database};
 
 use crate::parts::has_dot;
 use std::marker::Model;
@@ -13,7 +13,7 @@ pub struct DatabaseName {
 
 impl Model for DatabaseName {
     ghost use Rattle.std.specs.Prelude.{◌≡◌, List, ℕ, Some, string_bytes};
-    ghost use Rattle.mg_link.specs.Commands.{as_database};
+    ghost use Rattle.mg_link.specs.Namespace.{as_database};
 
     ghost Value = { List ℕ };
 

@@ -3,7 +3,7 @@ ghost use Rattle.std.specs.Prelude.{◌≡◌, map, option_map, nat_le, nat_lt, 
 ghost use Rattle.std.specs.List.{list_all};
 ghost use Rattle.serde_json.specs.Events.{items_len};
 ghost use Rattle.serde_json.specs.View.{view, items_view, members_view};
-ghost use Rattle.mg_link.specs.Filter.{has_dot};
+ghost use Rattle.mg_link.specs.Namespace.{has_dot};
 ghost use Rattle.mg_script.specs.Reads.{Gives};
 ghost use Rattle.mg_script.specs.Parts.{is_among, are_among, has_only, only_member, int32_number, natural_number, small_number, is_lower_digit, lower_bytes, printed_number, member_at, array_at, array_or, text_at, text_or, number_at, number_or, single_at, bytes_at};
 

@@ -6,8 +6,8 @@ use Rattle.mg_bson.specs.Tree.{Tree, Fields, document, Items, no_items}
 use Rattle.mg_bson.specs.Find.{with_item, items_joined}
 use Rattle.mg_bson.proofs.Joining.{items_joined_more, items_joined_all}
 use Rattle.mg_link.specs.Namespace.{Space}
-use Rattle.mg_link.specs.State.{Entry}
-use Rattle.mg_link.specs.Rules.{accept, choose, insert_entry, Inserted, inserting, no_more, with_document, with_error, write_error}
+use Rattle.mg_server.specs.State.{Entry}
+use Rattle.mg_server.specs.Rules.{accept, choose, insert_entry, Inserted, inserting, no_more, with_document, with_error, write_error}
 use Rattle.mg_query.specs.Numbering.{HaveNewIds, document_of, holds_id, vec_cmp}
 use Rattle.mg_store.specs.Holding.{AreExact, entries_from, entry_at, change_told}
 use Rattle.mg_store.specs.Inserting.{Accepts, Appends, Fits, Lists, Rejects, Takes, new_documents}

@@ -8,8 +8,8 @@ use Rattle.mg_bson.specs.Tree.{document, Items, no_items, item}
 use Rattle.mg_bson.specs.Bytes.{bytes}
 use Rattle.mg_bson.specs.Find.{with_item, items_joined}
 use Rattle.mg_bson.proofs.Joining.{items_joined_more, items_joined_all}
-use Rattle.mg_link.specs.State.{Entry, Watch, sees, is_invalidate, events_between}
-use Rattle.mg_link.specs.Rules.{behind_given, behind_other, full_behind, batch_place, documents_of_items, has_invalidate, ends_watch}
+use Rattle.mg_server.specs.State.{Entry, Watch, sees, is_invalidate, events_between}
+use Rattle.mg_server.specs.Rules.{behind_given, behind_other, full_behind, batch_place, documents_of_items, has_invalidate, ends_watch}
 
 -- how many of the entries that are left a batch has
 abbrev count_or : Option ℕ → ℕ → ℕ

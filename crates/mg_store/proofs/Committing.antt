@@ -11,9 +11,9 @@ use Rattle.mg_bson.specs.Raw.{fields}
 use Rattle.mg_bson.specs.Tree.{Fields}
 use Rattle.mg_link.specs.declared.namespace.Namespace.{Namespace}
 use Rattle.mg_link.specs.Namespace.{Space, space}
-use Rattle.mg_link.specs.State.{Entry, Cursor, Index, State, documents_at, indexes_of, is_space, put_cursor, without_cursors, query, changed_documents}
-use Rattle.mg_link.specs.Step.{documents_of}
-use Rattle.mg_link.specs.Rules.{is_id_among}
+use Rattle.mg_server.specs.State.{Entry, Cursor, Index, State, documents_at, indexes_of, is_space, put_cursor, without_cursors, query, changed_documents}
+use Rattle.mg_server.specs.Step.{documents_of}
+use Rattle.mg_server.specs.Rules.{is_id_among}
 use Rattle.mg_query.specs.Numbering.{KeepsIds, indexed, stored}
 use Rattle.mg_query.specs.Indexing.{index_held}
 use Rattle.mg_query.specs.declared.index.Index as code_index

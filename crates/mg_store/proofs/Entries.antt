@@ -7,8 +7,8 @@ use Rattle.mg_bson.specs.Bytes.{bytes}
 use Rattle.mg_bson.specs.Tree.{Fields}
 use Rattle.mg_bson.specs.Raw.{fields}
 use Rattle.mg_link.specs.Namespace.{Space}
-use Rattle.mg_link.specs.State.{Change, Entry, Watch, count_before, drops, invalidates, is_invalidate, sees}
-use Rattle.mg_link.specs.Rules.{dropped_entries, dropped_event, ended_before, ends_with, entry_before, invalidate_event, now_of, token_of}
+use Rattle.mg_server.specs.State.{Change, Entry, Watch, count_before, drops, invalidates, is_invalidate, sees}
+use Rattle.mg_server.specs.Rules.{dropped_entries, dropped_event, ended_before, ends_with, entry_before, invalidate_event, now_of, token_of}
 use Rattle.mg_store.specs.Holding.{change_told, entry_at, entries_from, AreExact, IsEntryOf}
 use Rattle.mg_store.specs.declared.change.ChangeEntry.{ChangeEntry}
 

@@ -4,13 +4,13 @@ use Rattle.std.specs.Prelude.{if◌then◌else◌}
 use Rattle.std.specs.List.{filter}
 use Rattle.mg_bson.specs.Tree.{Fields}
 use Rattle.mg_link.specs.Namespace.{Space}
-use Rattle.mg_link.specs.Filter.{Condition, matches}
-use Rattle.mg_link.specs.Commands.{query_by}
-use Rattle.mg_link.specs.Query.{Stage, selects, sorts, skips, limits, shows_id, hides_id, of_collection, result, staged, through}
-use Rattle.mg_link.specs.State.{State}
-use Rattle.mg_link.specs.Step.{documents_of}
-use Rattle.mg_link.specs.Rules as rules
-use Rattle.mg_link.specs.Rules.{refused}
+use Rattle.mg_server.specs.Filter.{Condition, matches}
+use Rattle.mg_server.specs.Commands.{query_by}
+use Rattle.mg_server.specs.Query.{Stage, selects, sorts, skips, limits, shows_id, hides_id, of_collection, result, staged, through}
+use Rattle.mg_server.specs.State.{State}
+use Rattle.mg_server.specs.Step.{documents_of}
+use Rattle.mg_server.specs.Rules as rules
+use Rattle.mg_server.specs.Rules.{refused}
 use Rattle.mg_query.specs.Asking.{keyed, matches_keys}
 use Rattle.mg_query.specs.Querying.{Doing, Results, all_done, doing, done}
 use Rattle.mg_query.specs.Wanted.{refusal_code, find}

@@ -13,14 +13,14 @@ use Rattle.mg_bson.specs.Tree.{Tree, Fields, Items, array, document, int32}
 use Rattle.mg_bson.specs.Raw.{fields}
 use Rattle.mg_bson.specs.Literal.{◌⇒◌⨾◌, empty}
 use Rattle.mg_link.specs.Namespace.{Space, Target, space, target}
-use Rattle.mg_link.specs.State.{Entry, Watch, Cursor, query, watching, State, Start, is_space, Index, collection_in, indexes_of}
-use Rattle.mg_link.specs.Step.{documents_of}
-use Rattle.mg_link.specs.Rules as rules
-use Rattle.mg_link.specs.Rules.{Inserted, answer_insert, dropped_entries, bad_request, batch_id, batch_place, cursor_fields, fitting, id_unless, ids_if, is_watch_of, refused, watch_space, size_of, stamp_of, token_of, errors_field, inserted_reply, inserting, number_of, place_at, may_stay, and_then, answer_query, batch_of_query, documents_of_items, first_held, id_while, map_ok, no_such_collection, or_code, query_id, query_space, deleted_reply}
-use Rattle.mg_link.specs.Query.{id_index, index_listed, of_indexes, Query, read, result, through}
-use Rattle.mg_link.specs.Commands.{query_by, KeepsId}
-use Rattle.mg_link.specs.Write.{with_indexes, Modification, chosen, changing}
-use Rattle.mg_link.specs.State as state
+use Rattle.mg_server.specs.State.{Entry, Watch, Cursor, query, watching, State, Start, is_space, Index, collection_in, indexes_of}
+use Rattle.mg_server.specs.Step.{documents_of}
+use Rattle.mg_server.specs.Rules as rules
+use Rattle.mg_server.specs.Rules.{Inserted, answer_insert, dropped_entries, bad_request, batch_id, batch_place, cursor_fields, fitting, id_unless, ids_if, is_watch_of, refused, watch_space, size_of, stamp_of, token_of, errors_field, inserted_reply, inserting, number_of, place_at, may_stay, and_then, answer_query, batch_of_query, documents_of_items, first_held, id_while, map_ok, no_such_collection, or_code, query_id, query_space, deleted_reply}
+use Rattle.mg_server.specs.Query.{id_index, index_listed, of_indexes, Query, read, result, through}
+use Rattle.mg_server.specs.Commands.{query_by, KeepsId}
+use Rattle.mg_server.specs.Write.{with_indexes, Modification, chosen, changing}
+use Rattle.mg_server.specs.State as state
 use Rattle.mg_query.specs.Numbering.{HaveNewIds, KeepsIdsThere, document_of, holds_id, indexed, indexes_there, stored, there, vec_cmp}
 use Rattle.mg_query.specs.Indexing.{index_held}
 use Rattle.mg_query.specs.declared.index.Index as code_index
@@ -29,7 +29,7 @@ use Rattle.mg_store.specs.Answering.{AnswersAs}
 use Rattle.mg_store.specs.Contents.{IsCursorAt, Represents, Settles, collection_at, moving, opening_effect, GoesOn, IsCursor, beginning, taking}
 use Rattle.mg_store.specs.Holding.{AreExact, GivesBatch, IsWatch, entries_from}
 use Rattle.mg_store.specs.Inserting.{Appends, Fits, new_documents}
-use Rattle.mg_link.proofs.Cursoring.{not_zero}
+use Rattle.mg_server.proofs.Cursoring.{not_zero}
 use Rattle.mg_query.specs.Querying.{GivesDocuments, chosen_by, is_none, lent}
 use Rattle.mg_query.specs.declared.batch.Batch.{Batch}
 use Rattle.mg_query.specs.declared.collection.Collection.{Collection}
@@ -50,7 +50,7 @@ use Rattle.mg_store.specs.declared.content.Effect.TheVariants as effects
 use Rattle.mg_store.proofs.Entries.{length-entries}
 use Rattle.mg_store.proofs.Settling.{settles}
 use Rattle.mg_link.specs.declared.namespace.Namespace.{Namespace}
-use Rattle.mg_link.specs.Filter.{Condition}
+use Rattle.mg_server.specs.Filter.{Condition}
 use Rattle.mg_query.specs.Asking.{Keyed, keyed}
 use Rattle.mg_query.specs.Collecting.{AreDistinct}
 use Rattle.mg_query.specs.declared.refusal.Refusal.{Refusal}

@@ -11,17 +11,17 @@ use Rattle.mg_bson.specs.Tree.{Fields}
 use Rattle.mg_bson.specs.Bytes.{bytes}
 use Rattle.mg_bson.specs.Raw.{fields}
 use Rattle.mg_link.specs.Namespace.{Space}
-use Rattle.mg_link.specs.State.{Cursor, State, nothing, documents_at, indexes_of, put_cursor}
-use Rattle.mg_link.specs.Commands.{Asked, asks_more, asked}
-use Rattle.mg_link.specs.Step.{documents_of, ends_cursor, cursors_refused}
-use Rattle.mg_link.specs.Rules.{is_id_among, refusal}
-use Rattle.mg_link.specs.Kept.{AreByRulesFrom, Kept, IsReply, by_choice, by_rules, given_after, given_of, given_from, is_started, state_behind, state_of_kept, steps_from, steps_of}
-use Rattle.mg_link.specs.History.{IsLegal, state_after}
-use Rattle.mg_link.specs.Prompt.{HoldsBackNone}
-use Rattle.mg_link.proofs.AtOnce.{kept_prompt}
-use Rattle.mg_link.proofs.Behind.{behind_refusal}
-use Rattle.mg_link.proofs.Indexed.{indexes_refused}
-use Rattle.mg_link.proofs.Legal.{by_rules_push, given_push, kept_is_legal, kept_state, state_push}
+use Rattle.mg_server.specs.State.{Cursor, State, nothing, documents_at, indexes_of, put_cursor}
+use Rattle.mg_server.specs.Commands.{Asked, asks_more, asked}
+use Rattle.mg_server.specs.Step.{documents_of, ends_cursor, cursors_refused}
+use Rattle.mg_server.specs.Rules.{is_id_among, refusal}
+use Rattle.mg_server.specs.Kept.{AreByRulesFrom, Kept, IsReply, by_choice, by_rules, given_after, given_of, given_from, is_started, state_behind, state_of_kept, steps_from, steps_of}
+use Rattle.mg_server.specs.History.{IsLegal, state_after}
+use Rattle.mg_server.specs.Prompt.{HoldsBackNone}
+use Rattle.mg_server.proofs.AtOnce.{kept_prompt}
+use Rattle.mg_server.proofs.Behind.{behind_refusal}
+use Rattle.mg_server.proofs.Indexed.{indexes_refused}
+use Rattle.mg_server.proofs.Legal.{by_rules_push, given_push, kept_is_legal, kept_state, state_push}
 use Rattle.mg_query.specs.Continued.{continued}
 use Rattle.mg_query.specs.Numbering.{KeepsIds, stored, stored_bytes}
 use Rattle.mg_query.specs.declared.collection.Collection.{Collection}

@@ -5,8 +5,8 @@ use Rattle.std.specs.Ordering.{int_eq}
 use Rattle.mg_bson.specs.Tree.{int64, Items, item}
 use Rattle.mg_bson.specs.Find.{with_item, items_joined}
 use Rattle.mg_bson.proofs.Joining.{items_joined_more, items_joined_all}
-use Rattle.mg_link.specs.State.{State}
-use Rattle.mg_link.specs.Rules.{ids_if, is_id_among, is_killed, same_answer}
+use Rattle.mg_server.specs.State.{State}
+use Rattle.mg_server.specs.Rules.{ids_if, is_id_among, is_killed, same_answer}
 
 abbrev SameIds : List ℤ → List ℤ → Type 0
 SameIds xs ys = (q : ℤ) → is_id_among q xs ≡ is_id_among q ys

@@ -11,13 +11,13 @@ use Rattle.std.proofs.lemmas.Map.Lookups.{btree_set_from_contains}
 use Rattle.mg_bson.specs.Tree.{Fields}
 use Rattle.mg_link.specs.declared.namespace.Namespace.{Namespace}
 use Rattle.mg_link.specs.Namespace.{Space, space}
-use Rattle.mg_link.specs.Commands.{query_by}
-use Rattle.mg_link.specs.Query.{Stage, collection_listed, of_database, result}
-use Rattle.mg_link.specs.Rules as rules
-use Rattle.mg_link.specs.Rules.{refused}
-use Rattle.mg_link.specs.State as state
-use Rattle.mg_link.specs.State.{State, collection_in, is_space, space_cmp, names_of, AreInOrder}
-use Rattle.mg_link.proofs.Ordered.{spaces_total, tied_is}
+use Rattle.mg_server.specs.Commands.{query_by}
+use Rattle.mg_server.specs.Query.{Stage, collection_listed, of_database, result}
+use Rattle.mg_server.specs.Rules as rules
+use Rattle.mg_server.specs.Rules.{refused}
+use Rattle.mg_server.specs.State as state
+use Rattle.mg_server.specs.State.{State, collection_in, is_space, space_cmp, names_of, AreInOrder}
+use Rattle.mg_server.proofs.Ordered.{spaces_total, tied_is}
 use Rattle.mg_query.specs.Listing.{name_listed, names_listed}
 use Rattle.mg_query.specs.Querying.{Doing, Results, all_done, doing}
 use Rattle.mg_query.specs.Wanted.{refusal_code}

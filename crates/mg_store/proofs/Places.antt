@@ -9,10 +9,10 @@ use Rattle.hex.specs.declared.error.FromHexError.{FromHexError}
 use Rattle.hex.proofs.HexLemmas.{decode_sized-encode_lower}
 use Rattle.mg_bson.specs.Tree.{Tree, Fields}
 use Rattle.mg_bson.specs.Find.{as_document}
-use Rattle.mg_link.specs.Commands.{text_of}
-use Rattle.mg_link.specs.Filter.{key}
-use Rattle.mg_link.specs.Rules.{token_of, token_fields, token_place}
-use Rattle.mg_link.proofs.Tokens.{number_bytes, place_named}
+use Rattle.mg_server.specs.Commands.{text_of}
+use Rattle.mg_server.specs.Filter.{key}
+use Rattle.mg_server.specs.Rules.{token_of, token_fields, token_place}
+use Rattle.mg_server.proofs.Tokens.{number_bytes, place_named}
 
 -- the text of a token
 pub text_of_token : (place : ℕ) (found : Tree) (fs : Fields) (s : List ℕ) → found ≡ token_of place → Some fs ≡ as_document found → Some s ≡ text_of (codes "_data") fs → s ≡ encode_lower (to_be_bytes w64 place)

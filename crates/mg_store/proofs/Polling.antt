@@ -4,13 +4,13 @@ use Rattle.std.specs.Prelude.{slice_get, slice_set, IsSome, string_bytes}
 use Rattle.std.proofs.lemmas.Bool.{cases_eq}
 use Rattle.mg_bson.specs.Tree.{Fields}
 use Rattle.mg_link.specs.Causes.{Rose, RoseJust}
-use Rattle.mg_link.specs.History.{Step}
-use Rattle.mg_link.specs.Kept.{Kept, steps_of}
+use Rattle.mg_server.specs.History.{Step}
+use Rattle.mg_server.specs.Kept.{Kept, steps_of}
 use Rattle.mg_link.specs.Link.{ComesAtOnce, Ends, OneMoreAt, PollMeans, PollPends, SamePolls, StaysPrompt}
 use Rattle.mg_link.specs.Log.{Sight, waiting, reply, fault, memory, Call, see}
 use Rattle.mg_link.specs.Places.{out_at, polls_in, IsAnswer}
-use Rattle.mg_link.specs.Rules.{refusal}
-use Rattle.mg_link.specs.Standing.{Stands, SeenFits}
+use Rattle.mg_server.specs.Rules.{refusal}
+use Rattle.mg_server.specs.Standing.{Stands, SeenFits}
 use Rattle.mg_link.specs.declared.link.Polled.{Polled}
 use Rattle.mg_link.specs.declared.link.Polled.TheVariants as polled
 use Rattle.mg_link.proofs.Outs.{is_waiting, ends_at, length-see, polled_once_more}

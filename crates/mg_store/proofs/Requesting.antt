@@ -4,11 +4,11 @@ use Rattle.std.specs.Prelude.{false}
 use Rattle.mg_bson.specs.Tree.{Fields}
 use Rattle.mg_bson.specs.Raw.{fields}
 use Rattle.mg_link.specs.Namespace.{Space, Target}
-use Rattle.mg_link.specs.State.{Watch, State, Start, Index}
-use Rattle.mg_link.specs.Commands.{query_by, KeepsId}
-use Rattle.mg_link.specs.Query.{Query, Source, Stage, of_collection, of_indexes}
-use Rattle.mg_link.specs.Rules as rules
-use Rattle.mg_link.specs.Rules.{ended_before, map_ok, no_such_token, place_after, place_at, request_of, token_place, or_code}
+use Rattle.mg_server.specs.State.{Watch, State, Start, Index}
+use Rattle.mg_server.specs.Commands.{query_by, KeepsId}
+use Rattle.mg_server.specs.Query.{Query, Source, Stage, of_collection, of_indexes}
+use Rattle.mg_server.specs.Rules as rules
+use Rattle.mg_server.specs.Rules.{ended_before, map_ok, no_such_token, place_after, place_at, request_of, token_place, or_code}
 use Rattle.mg_query.specs.Asking.{Keyed, keyed}
 use Rattle.mg_query.specs.Querying.{Doing, doing}
 use Rattle.mg_query.specs.Wanted.{Wanted, StopsBy, create_collection, create_indexes, drop_collection, insert, kill, more, wanted, watch, find, update, delete}
@@ -17,9 +17,9 @@ use Rattle.mg_query.specs.declared.refusal.Stop.TheVariants as stops
 use Rattle.mg_store.specs.Contents.{AnswersOr, Settles}
 use Rattle.mg_store.specs.declared.perform.Answer.{Answer}
 use Rattle.mg_store.proofs.Settling.{answers_or, answers_unread}
-use Rattle.mg_link.specs.Filter.{Condition}
-use Rattle.mg_link.specs.Write.{Modification}
-use Rattle.mg_link.proofs.Requests.{request_reads}
+use Rattle.mg_server.specs.Filter.{Condition}
+use Rattle.mg_server.specs.Write.{Modification}
+use Rattle.mg_server.proofs.Requests.{request_reads}
 
 -- a request that is wanted so
 pub record Read (x : Result rules.Request ℤ) (w : Wanted) : Type 0 where

@@ -17,11 +17,11 @@ use Rattle.mg_bson.specs.Find.{get, put}
 use Rattle.mg_bson.specs.Raw.{fields}
 use Rattle.mg_bson.specs.Writable.{max_len}
 use Rattle.mg_link.specs.Namespace.{Space}
-use Rattle.mg_link.specs.Filter.{Condition, matches}
-use Rattle.mg_link.specs.State.{Change, Entry, deletes}
-use Rattle.mg_link.specs.Commands.{may_set, KeepsId}
-use Rattle.mg_link.specs.Rules.{deleted_entries, deleted_event, entry_before, events_may_be_given, may_be_given, may_stay, modified_entries, modified_event, max_document}
-use Rattle.mg_link.specs.Write.{Modification, sets, puts, after_delete, after_update, change_of, changing, chosen, differs, modified, with_fields, with_id}
+use Rattle.mg_server.specs.Filter.{Condition, matches}
+use Rattle.mg_server.specs.State.{Change, Entry, deletes}
+use Rattle.mg_server.specs.Commands.{may_set, KeepsId}
+use Rattle.mg_server.specs.Rules.{deleted_entries, deleted_event, entry_before, events_may_be_given, may_be_given, may_stay, modified_entries, modified_event, max_document}
+use Rattle.mg_server.specs.Write.{Modification, sets, puts, after_delete, after_update, change_of, changing, chosen, differs, modified, with_fields, with_id}
 use Rattle.mg_query.specs.Asking.{Keyed, keyed, matches_keys}
 use Rattle.mg_query.specs.Collecting.{AreDistinct, exchange_document, without_document, AreKeyed, exchange_documents, without_documents}
 use Rattle.mg_query.specs.Numbering.{IsExact, IsKeyed, document_of, holds_id, is_of_id}

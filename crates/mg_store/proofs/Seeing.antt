@@ -6,9 +6,9 @@ use Rattle.mg_bson.specs.Tree.{Tree, Fields, Items, no_items, item}
 use Rattle.mg_bson.specs.Find.{get}
 use Rattle.mg_bson.specs.Raw.{fields}
 use Rattle.mg_link.specs.Namespace.{Target, target}
-use Rattle.mg_link.specs.Filter.{Condition, key, is_same, is_among, one_of, matches}
-use Rattle.mg_link.specs.Rules.{ended_before}
-use Rattle.mg_link.specs.State.{Watch, is_invalidate, is_of, sees}
+use Rattle.mg_server.specs.Filter.{Condition, key, is_same, is_among, one_of, matches}
+use Rattle.mg_server.specs.Rules.{ended_before}
+use Rattle.mg_server.specs.State.{Watch, is_invalidate, is_of, sees}
 use Rattle.mg_query.specs.Asking.{Keyed, held, keyed, keys_of, is_key_among, has_key, matches_keys}
 use Rattle.mg_store.specs.Holding.{change_told, entries_from, entry_at, IsWatch, IsWatchOf}
 use Rattle.mg_store.specs.declared.change.ChangeEntry.{ChangeEntry}

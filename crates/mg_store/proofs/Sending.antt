@@ -4,16 +4,16 @@ use Rattle.std.specs.Prelude.{slice_get, is_some, not, string_bytes, Result, Ok,
 use Rattle.std.proofs.lemmas.List.{length-map}
 use Rattle.std.proofs.lemmas.Option.{slice_get_past}
 use Rattle.mg_bson.specs.Tree.{Fields}
-use Rattle.mg_link.specs.Commands.{Asked, asks_insert, asks_watch, asks_more, asks_kill, asks_update, asks_delete, asks_query, asks_create, asks_indexes, asks_drop, asks_other, asked}
-use Rattle.mg_link.specs.History.{Step}
-use Rattle.mg_link.specs.Kept.{Kept, step_of, state_behind, given_after, steps_from, steps_of, state_of_kept, given_of, is_started}
+use Rattle.mg_server.specs.Commands.{Asked, asks_insert, asks_watch, asks_more, asks_kill, asks_update, asks_delete, asks_query, asks_create, asks_indexes, asks_drop, asks_other, asked}
+use Rattle.mg_server.specs.History.{Step}
+use Rattle.mg_server.specs.Kept.{Kept, step_of, state_behind, given_after, steps_from, steps_of, state_of_kept, given_of, is_started}
 use Rattle.mg_link.specs.Link.{SamePolls, Starts}
 use Rattle.mg_link.specs.Log.{waiting, Call}
 use Rattle.mg_link.specs.Places.{waiting_at, out_at, polls_in}
-use Rattle.mg_link.specs.Rules.{refusal}
-use Rattle.mg_link.specs.Standing.{Names, Stands}
-use Rattle.mg_link.specs.State.{State}
-use Rattle.mg_link.proofs.Legal.{steps_push}
+use Rattle.mg_server.specs.Rules.{refusal}
+use Rattle.mg_server.specs.Standing.{Names, Stands}
+use Rattle.mg_server.specs.State.{State}
+use Rattle.mg_server.proofs.Legal.{steps_push}
 use Rattle.mg_link.proofs.Outs.{polls_push}
 use Rattle.mg_link.proofs.Places.{get_within}
 use Rattle.mg_query.specs.Continued.{is_about_cursors}

@@ -9,20 +9,20 @@ use Rattle.mg_bson.specs.Tree.{Fields, no_fields, field}
 use Rattle.mg_bson.specs.Bytes.{bytes}
 use Rattle.mg_bson.specs.Raw.{fields}
 use Rattle.mg_link.specs.Namespace.{Space, space}
-use Rattle.mg_link.specs.State.{Entry, Watch, Cursor, watching, Collection, Index, State, collection_in, indexes_of, is_space, documents_at, put_cursor, without_cursors, query, put_documents, changed_documents}
-use Rattle.mg_link.specs.Commands.{Asked, asks_more, asked}
-use Rattle.mg_link.specs.Step.{documents_of, ends_cursor, cursors_refused}
-use Rattle.mg_link.specs.Query.{index_listed}
-use Rattle.mg_link.specs.Write.{with_indexes, after_delete, after_update, changing, chosen, modified}
-use Rattle.mg_link.specs.Rules as rules
-use Rattle.mg_link.specs.Rules.{Inserted, answer, answer_insert, answer_of, and_then, bad_request, batch_place, ends_watch, fitting, inserting, insert_request, kill_request, more_request, or_code, refusal, refused, request_of, size_of, unknown_command, watch_reply, may_stay, create_request, indexes_request, drop_request, list_collections_request, list_indexes_request, dropped_entries, batch_of_query, find_request, first_held, query_id, query_space, aggregate_request, update_request, delete_request, modified_entries, deleted_entries, events_may_be_given, updated_reply, deleted_reply}
-use Rattle.mg_link.specs.Kept.{Kept, state_behind, given_after, IsStoreState}
-use Rattle.mg_link.proofs.Requests.{asked_is, asks_of}
-use Rattle.mg_link.proofs.Behind.{Parts, behind_insert, behind_kill, behind_more, behind_refusal, behind_watch, cursor_moved, cursors_opened, given_opened, behind_create, behind_indexes, behind_drop, behind_find, behind_query_more, cursors_found, given_found, rest_of, behind_update, behind_delete}
-use Rattle.mg_link.proofs.Allowed.{answered_if, create_ok, drop_ok, found_by, query_id-is}
-use Rattle.mg_link.proofs.Collections.{same_space}
-use Rattle.mg_link.proofs.Cursoring.{same_int, not_zero}
-use Rattle.mg_link.proofs.Indexed.{HasIndexesOf, LeavesIndexes, indexes_created, indexes_dropped, indexes_refused, indexes_stay}
+use Rattle.mg_server.specs.State.{Entry, Watch, Cursor, watching, Collection, Index, State, collection_in, indexes_of, is_space, documents_at, put_cursor, without_cursors, query, put_documents, changed_documents}
+use Rattle.mg_server.specs.Commands.{Asked, asks_more, asked}
+use Rattle.mg_server.specs.Step.{documents_of, ends_cursor, cursors_refused}
+use Rattle.mg_server.specs.Query.{index_listed}
+use Rattle.mg_server.specs.Write.{with_indexes, after_delete, after_update, changing, chosen, modified}
+use Rattle.mg_server.specs.Rules as rules
+use Rattle.mg_server.specs.Rules.{Inserted, answer, answer_insert, answer_of, and_then, bad_request, batch_place, ends_watch, fitting, inserting, insert_request, kill_request, more_request, or_code, refusal, refused, request_of, size_of, unknown_command, watch_reply, may_stay, create_request, indexes_request, drop_request, list_collections_request, list_indexes_request, dropped_entries, batch_of_query, find_request, first_held, query_id, query_space, aggregate_request, update_request, delete_request, modified_entries, deleted_entries, events_may_be_given, updated_reply, deleted_reply}
+use Rattle.mg_server.specs.Kept.{Kept, state_behind, given_after, IsStoreState}
+use Rattle.mg_server.proofs.Requests.{asked_is, asks_of}
+use Rattle.mg_server.proofs.Behind.{Parts, behind_insert, behind_kill, behind_more, behind_refusal, behind_watch, cursor_moved, cursors_opened, given_opened, behind_create, behind_indexes, behind_drop, behind_find, behind_query_more, cursors_found, given_found, rest_of, behind_update, behind_delete}
+use Rattle.mg_server.proofs.Allowed.{answered_if, create_ok, drop_ok, found_by, query_id-is}
+use Rattle.mg_server.proofs.Collections.{same_space}
+use Rattle.mg_server.proofs.Cursoring.{same_int, not_zero}
+use Rattle.mg_server.proofs.Indexed.{HasIndexesOf, LeavesIndexes, indexes_created, indexes_dropped, indexes_refused, indexes_stay}
 use Rattle.mg_query.specs.Querying.{is_none}
 use Rattle.mg_query.specs.Replies.{IsWritten, fits}
 use Rattle.mg_query.specs.Wanted.{refusal_code}

@@ -2,9 +2,9 @@
 use Rattle.std.proofs.Common.{◌≡◌, ◌⊎◌, ℕ, ℤ, zero, suc, ◌<◌, List, [], ◌∷◌, ◌++◌, length, Some, None, refl, sym, ap, ◌∙◌, subst, inl, inr, arith}
 use Rattle.std.specs.Prelude.{slice_get, slice_set}
 use Rattle.mg_link.specs.Log.{Sight, waiting, reply, Call, see}
-use Rattle.mg_link.specs.Commands.{asked}
-use Rattle.mg_link.specs.History.{Step}
-use Rattle.mg_link.specs.Standing.{Stands, TookEffect, SeenFits, Names}
+use Rattle.mg_server.specs.Commands.{asked}
+use Rattle.mg_server.specs.History.{Step}
+use Rattle.mg_server.specs.Standing.{Stands, TookEffect, SeenFits, Names}
 use Rattle.mg_link.proofs.Places.{get_front, get_within}
 
 pub same_some : {A : Type 0} (x y : A) → Some x ≡ Some y → x ≡ y

@@ -8,15 +8,15 @@ use Rattle.mg_bson.specs.Tree.{Fields}
 use Rattle.mg_bson.specs.Raw.{fields}
 use Rattle.mg_link.specs.declared.namespace.Namespace.{Namespace}
 use Rattle.mg_link.specs.Namespace.{Space, space}
-use Rattle.mg_link.specs.State.{Entry, Watch, Cursor, query, watching, State, Start, documents_at, is_space, put_cursor, without_cursors, indexes_of, Index, put_documents, changed_documents}
-use Rattle.mg_link.specs.Step.{documents_of, cursors_refused}
-use Rattle.mg_link.specs.Filter.{Condition}
-use Rattle.mg_link.specs.Write.{Modification, after_delete, after_update, changing, chosen, with_indexes}
-use Rattle.mg_link.specs.Rules as rules
-use Rattle.mg_link.specs.Rules.{dropped_entries, inserting, answer, answer_of, batch_place, ends_watch, fitting, place_at, refused, size_of, batch_of_query, first_held, query_id, query_space, deleted_entries, modified_entries}
-use Rattle.mg_link.specs.Query.{Query, result}
-use Rattle.mg_link.specs.Commands.{asked}
-use Rattle.mg_link.specs.Kept.{Kept, Follows, IsByRules, IsReply, IsStoreState, given_after, given_of, state_behind, state_of_kept}
+use Rattle.mg_server.specs.State.{Entry, Watch, Cursor, query, watching, State, Start, documents_at, is_space, put_cursor, without_cursors, indexes_of, Index, put_documents, changed_documents}
+use Rattle.mg_server.specs.Step.{documents_of, cursors_refused}
+use Rattle.mg_server.specs.Filter.{Condition}
+use Rattle.mg_server.specs.Write.{Modification, after_delete, after_update, changing, chosen, with_indexes}
+use Rattle.mg_server.specs.Rules as rules
+use Rattle.mg_server.specs.Rules.{dropped_entries, inserting, answer, answer_of, batch_place, ends_watch, fitting, place_at, refused, size_of, batch_of_query, first_held, query_id, query_space, deleted_entries, modified_entries}
+use Rattle.mg_server.specs.Query.{Query, result}
+use Rattle.mg_server.specs.Commands.{asked}
+use Rattle.mg_server.specs.Kept.{Kept, Follows, IsByRules, IsReply, IsStoreState, given_after, given_of, state_behind, state_of_kept}
 use Rattle.mg_query.specs.Indexing.{index_held}
 use Rattle.mg_query.specs.Numbering.{KeepsIds, indexed, stored}
 use Rattle.mg_query.specs.declared.index.Index as code_index

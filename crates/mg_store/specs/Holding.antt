@@ -4,9 +4,9 @@ use Rattle.std.specs.Str.{bytes_eq}
 use Rattle.mg_bson.specs.Tree.{Fields}
 use Rattle.mg_bson.specs.Raw.{fields}
 use Rattle.mg_link.specs.Namespace.{Space, Target, space, target}
-use Rattle.mg_link.specs.Commands.{text_of}
-use Rattle.mg_link.specs.State.{inserts, updates, replaces, deletes, drops, invalidates, Change, Entry, Watch}
-use Rattle.mg_link.specs.Rules.{token_of, now_of, batch_place, documents_of_items, ends_watch, batch_events}
+use Rattle.mg_server.specs.Commands.{text_of}
+use Rattle.mg_server.specs.State.{inserts, updates, replaces, deletes, drops, invalidates, Change, Entry, Watch}
+use Rattle.mg_server.specs.Rules.{token_of, now_of, batch_place, documents_of_items, ends_watch, batch_events}
 use Rattle.mg_query.specs.Asking.{Keyed, held, keyed, matches_keys}
 use Rattle.mg_query.specs.Numbering.{IsExact}
 use Rattle.mg_store.specs.declared.change.ChangeEntry.{ChangeEntry}

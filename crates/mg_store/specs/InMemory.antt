@@ -3,11 +3,11 @@ use Rattle.std.specs.Prelude.{◌≡◌, ◌+◌, ◌<◌, ◌≤◌, ◌++◌, 
 use Rattle.mg_bson.specs.Tree.{Fields}
 use Rattle.mg_bson.specs.Bytes.{bytes}
 use Rattle.mg_bson.specs.Raw.{fields}
-use Rattle.mg_link.specs.Commands.{asked}
-use Rattle.mg_link.specs.Kept.{Kept, IsReply, given_of, state_of_kept}
+use Rattle.mg_server.specs.Commands.{asked}
+use Rattle.mg_server.specs.Kept.{Kept, IsReply, given_of, state_of_kept}
 use Rattle.mg_link.specs.Log.{Sight, waiting, reply, fault, memory, Call}
-use Rattle.mg_link.specs.Rules.{answer_of, refusal}
-use Rattle.mg_link.specs.Standing.{Names}
+use Rattle.mg_server.specs.Rules.{answer_of, refusal}
+use Rattle.mg_server.specs.Standing.{Names}
 use Rattle.mg_link.specs.declared.link.LinkError.{LinkError}
 use Rattle.mg_link.specs.declared.link.LinkError.TheVariants as errors
 use Rattle.mg_link.specs.declared.link.Polled.{Polled}

@@ -10,8 +10,8 @@ use Rattle.mg_bson.specs.Find.{get, with_item}
 use Rattle.mg_bson.specs.View.{tree}
 use Rattle.mg_bson.specs.declared.tree.Bson.{Bson}
 use Rattle.mg_link.specs.Namespace.{Space, space}
-use Rattle.mg_link.specs.Filter.{key}
-use Rattle.mg_link.specs.Rules.{accept, bad_request, insert_event, Inserted, is_storable, write_error}
+use Rattle.mg_server.specs.Filter.{key}
+use Rattle.mg_server.specs.Rules.{accept, bad_request, insert_event, Inserted, is_storable, write_error}
 use Rattle.mg_query.specs.Numbering.{HaveNewIds, document_of, holds_id, vec_cmp}
 use Rattle.mg_store.specs.Holding.{AreExact, IsEntryOf, entries_from}
 use Rattle.mg_store.specs.declared.change.ChangeEntry.{ChangeEntry}

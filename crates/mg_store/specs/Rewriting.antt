@@ -4,8 +4,8 @@ use Rattle.std.specs.Prelude.{◌≡◌, ℕ, Bool, true, false, ◌&&◌, List,
 use Rattle.std.specs.List.{AllByRecursion, filter, list_all}
 use Rattle.mg_bson.specs.Tree.{Fields}
 use Rattle.mg_link.specs.Namespace.{Space}
-use Rattle.mg_link.specs.Rules.{deleted_entries, events_may_be_given, may_be_given, may_stay, modified_entries, modified_event}
-use Rattle.mg_link.specs.Write.{Modification, differs, modified}
+use Rattle.mg_server.specs.Rules.{deleted_entries, events_may_be_given, may_be_given, may_stay, modified_entries, modified_event}
+use Rattle.mg_server.specs.Write.{Modification, differs, modified}
 use Rattle.mg_query.specs.Numbering.{IsExact, IsKeyed, document_of}
 use Rattle.mg_query.specs.declared.collection.KeyedDocument.{KeyedDocument}
 use Rattle.mg_query.specs.declared.refusal.Refusal.TheVariants as refusals

@@ -1,8 +1,8 @@
 -- What the parts of a link in memory do when a command is sent and when its call is polled.
 use Rattle.std.specs.Prelude.{◌≡◌, ◌+◌, ◌<◌, ◌≤◌, ◌++◌, ℕ, Option, Some, None, List, [], ◌∷◌, length, map, slice_get, slice_set}
-use Rattle.mg_link.specs.Kept.{Kept, steps_of}
+use Rattle.mg_server.specs.Kept.{Kept, steps_of}
 use Rattle.mg_link.specs.Log.{Sight, waiting, reply, fault, memory, Call, see}
-use Rattle.mg_link.specs.Standing.{Stands}
+use Rattle.mg_server.specs.Standing.{Stands}
 use Rattle.mg_link.specs.declared.link.Polled.{Polled}
 use Rattle.mg_link.specs.declared.link.Polled.TheVariants as polled
 use Rattle.mg_store.specs.InMemory.{fate_at, AreSmall, coming, IsAsFate, Takes, sent_call}

@@ -2,9 +2,9 @@
 use Rattle.std.specs.Prelude.{◌≡◌, ℕ, ℤ, is_some, List, [], ◌∷◌, ◌++◌, length, map}
 use Rattle.std.specs.Ordering.{int_cmp}
 use Rattle.std.specs.List.Sorted.{IsStrictlySortedBy}
-use Rattle.mg_link.specs.State.{State}
-use Rattle.mg_link.specs.Rules.{is_id_among}
-use Rattle.mg_link.specs.Kept.{Kept}
+use Rattle.mg_server.specs.State.{State}
+use Rattle.mg_server.specs.Rules.{is_id_among}
+use Rattle.mg_server.specs.Kept.{Kept}
 use Rattle.mg_link.specs.declared.history.HistoryStep.{HistoryStep}
 use Rattle.mg_link.specs.declared.history.Receipt.{Receipt}
 

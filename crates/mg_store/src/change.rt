@@ -4,9 +4,9 @@ ghost use Rattle.mg_bson.specs.Raw.{fields};
 ghost use Rattle.mg_bson.specs.Tree.{document};
 ghost use Rattle.mg_bson.specs.View.{tree};
 ghost use Rattle.mg_link.specs.Namespace.{space, target};
-ghost use Rattle.mg_link.specs.Rules.{dropped_entries, ended_before};
-ghost use Rattle.mg_link.specs.State as state;
-ghost use Rattle.mg_link.specs.State.{count_before, is_invalidate, is_of, time_of};
+ghost use Rattle.mg_server.specs.Rules.{dropped_entries, ended_before};
+ghost use Rattle.mg_server.specs.State as state;
+ghost use Rattle.mg_server.specs.State.{count_before, is_invalidate, is_of, time_of};
 ghost use Rattle.mg_query.specs.Selecting.{selecting};
 ghost use Rattle.mg_store.specs.Holding.{AreExact, GivesBatch, IsEntryOf, IsWatch, IsWatchOf, change_told, entries_from, entry_at};
 

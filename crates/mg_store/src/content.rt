@@ -3,8 +3,8 @@ ghost use Rattle.mg_store.specs.declared.content.Effect.TheVariants.{Drop, Inser
 ghost use Rattle.std.specs.Prelude.{◌≡◌, ℕ, ℤ, None, [], OnOk, OnErr, if◌then◌else◌};
 ghost use Rattle.std.specs.BTreeMap.{get, keys};
 ghost use Rattle.std.specs.Ordering.{int_cmp};
-ghost use Rattle.mg_link.specs.Rules.{is_id_among};
-ghost use Rattle.mg_link.specs.State.{State, nothing};
+ghost use Rattle.mg_server.specs.Rules.{is_id_among};
+ghost use Rattle.mg_server.specs.State.{State, nothing};
 ghost use Rattle.mg_store.specs.Contents.{Leads, Represents};
 
 use crate::change::ChangeEntry;

@@ -5,7 +5,7 @@ ghost use Rattle.mg_bson.specs.Find.{get};
 ghost use Rattle.mg_bson.specs.Raw.{items};
 ghost use Rattle.mg_bson.specs.Tree.{Fields, no_items};
 ghost use Rattle.mg_link.specs.Namespace.{space};
-ghost use Rattle.mg_link.specs.Rules.{inserting, write_error};
+ghost use Rattle.mg_server.specs.Rules.{inserting, write_error};
 ghost use Rattle.mg_query.specs.Asking.{documents_among};
 ghost use Rattle.mg_query.specs.Numbering.{KeepsIdsThere, holds_id, there};
 ghost use Rattle.mg_store.specs.Inserting.{AcceptsOr, Adds, Appends, Encodes, Fits, GivesEntry, GivesId, GivesKey, Lists, Takes, new_documents};

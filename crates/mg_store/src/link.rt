@@ -2,10 +2,10 @@
 ghost use Rattle.std.specs.Prelude.{◌≡◌, ◌<◌, ◌≤◌, [], Some, IfOk, IsErrOf, IsSome, OnErr, length, map, not, string_bytes, true, vec_len};
 ghost use Rattle.mg_bson.specs.Raw.{fields};
 ghost use Rattle.mg_link.specs.Causes.{Rose};
-ghost use Rattle.mg_link.specs.Kept.{IsReply, state_of_kept};
+ghost use Rattle.mg_server.specs.Kept.{IsReply, state_of_kept};
 ghost use Rattle.mg_link.specs.Link.{ComesAtOnce, Later, PollMeans, PollPends, SamePolls, StartMeans, StartsAtOnce, StaysPrompt};
 ghost use Rattle.mg_link.specs.Places.{out_at, polls_in};
-ghost use Rattle.mg_link.specs.Rules.{refusal};
+ghost use Rattle.mg_server.specs.Rules.{refusal};
 ghost use Rattle.mg_query.specs.Continued.{is_cursor_command};
 ghost use Rattle.mg_store.specs.InMemory.{IsPromptLink, IsSmall, NamesNone, Performed, StartedAs, Takes, by_rules, fate_at, faults_in, pended_after, pends_in, position_behind};
 ghost use Rattle.mg_store.specs.Sending.{HandsOver, HeardAt, Hearing, Honest, PolledAt, Sent, pended_of};
@@ -317,10 +317,10 @@ impl Model for MemLink {
 }
 
 impl MemLink {
-    ghost use Rattle.mg_link.specs.History.{IsLegal};
-    ghost use Rattle.mg_link.specs.Kept.{IsByRules, steps_of};
-    ghost use Rattle.mg_link.specs.Prompt.{HoldsBackNone};
-    ghost use Rattle.mg_link.specs.Standing.{Stands};
+    ghost use Rattle.mg_server.specs.History.{IsLegal};
+    ghost use Rattle.mg_server.specs.Kept.{IsByRules, steps_of};
+    ghost use Rattle.mg_server.specs.Prompt.{HoldsBackNone};
+    ghost use Rattle.mg_server.specs.Standing.{Stands};
     ghost use Rattle.mg_store.specs.InMemory.{AreAsFates, AreKept, ArePlaced, AreSmall, IsPromptLink};
 
     /// A link to this store, over which nothing was sent, with these fates and this wire version. Each refusal that a

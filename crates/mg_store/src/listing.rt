@@ -1,10 +1,10 @@
 //! Lists of collections and indexes.
 ghost use Rattle.std.specs.Prelude.{◌≡◌, ℕ, List, [], false, map};
-ghost use Rattle.mg_link.specs.Commands.{query_by};
+ghost use Rattle.mg_server.specs.Commands.{query_by};
 ghost use Rattle.mg_link.specs.Namespace.{space};
-ghost use Rattle.mg_link.specs.Query.{Stage, of_database, of_indexes};
-ghost use Rattle.mg_link.specs.Rules.{find};
-ghost use Rattle.mg_link.specs.State.{State, AreInOrder};
+ghost use Rattle.mg_server.specs.Query.{Stage, of_database, of_indexes};
+ghost use Rattle.mg_server.specs.Rules.{find};
+ghost use Rattle.mg_server.specs.State.{State, AreInOrder};
 ghost use Rattle.mg_query.specs.Querying.{doing, held_stage};
 ghost use Rattle.mg_store.specs.Contents.{Represents, Settles};
 

@@ -1,7 +1,7 @@
 //! What a command is answered.
 ghost use Rattle.std.specs.Prelude.{◌≡◌, ℕ, IfOk, map, string_bytes};
-ghost use Rattle.mg_link.specs.Rules.{refusal};
-ghost use Rattle.mg_link.specs.State.{State, AreInOrder};
+ghost use Rattle.mg_server.specs.Rules.{refusal};
+ghost use Rattle.mg_server.specs.State.{State, AreInOrder};
 ghost use Rattle.mg_query.specs.Wanted.{lent_write};
 ghost use Rattle.mg_store.specs.Answering.{AnswersAs, AnswersRefusal};
 ghost use Rattle.mg_store.specs.Contents.{AnswersAsked, AnswersBy, AnswersOr, Represents, closing};

@@ -2,12 +2,12 @@
 ghost use Rattle.std.specs.Prelude.{◌≡◌, ◌<◌, ◌≤◌, [], length, map, suc, pos, string_bytes, IfOk, OnErr};
 ghost use Rattle.mg_bson.specs.Bytes.{bytes};
 ghost use Rattle.mg_bson.specs.Raw.{fields};
-ghost use Rattle.mg_link.specs.History.{IsLegal};
-ghost use Rattle.mg_link.specs.Kept.{IsByRules, IsReply, given_of, state_of_kept, steps_of};
+ghost use Rattle.mg_server.specs.History.{IsLegal};
+ghost use Rattle.mg_server.specs.Kept.{IsByRules, IsReply, given_of, state_of_kept, steps_of};
 ghost use Rattle.mg_link.specs.Namespace.{space};
-ghost use Rattle.mg_link.specs.Prompt.{HoldsBackNone};
-ghost use Rattle.mg_link.specs.Rules.{answer_of, refusal};
-ghost use Rattle.mg_link.specs.Step.{documents_of};
+ghost use Rattle.mg_server.specs.Prompt.{HoldsBackNone};
+ghost use Rattle.mg_server.specs.Rules.{answer_of, refusal};
+ghost use Rattle.mg_server.specs.Step.{documents_of};
 ghost use Rattle.mg_store.specs.Contents.{MayKeep};
 ghost use Rattle.mg_store.specs.Holding.{AreExact, entries_from};
 ghost use Rattle.mg_store.specs.Stored.{AreOpen, Performs, Stored, kept_of};

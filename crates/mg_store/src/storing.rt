@@ -1,11 +1,11 @@
 //! What commands are answered that change what is stored.
 ghost use Rattle.std.specs.Prelude.{◌≡◌, ℕ, map, List};
 ghost use Rattle.mg_bson.specs.Raw.{items};
-ghost use Rattle.mg_link.specs.Filter as filter;
+ghost use Rattle.mg_server.specs.Filter as filter;
 ghost use Rattle.mg_link.specs.Namespace.{space};
-ghost use Rattle.mg_link.specs.Commands.{KeepsId};
-ghost use Rattle.mg_link.specs.Rules.{create_collection, create_indexes, insert, drop_collection, update, delete};
-ghost use Rattle.mg_link.specs.State.{State};
+ghost use Rattle.mg_server.specs.Commands.{KeepsId};
+ghost use Rattle.mg_server.specs.Rules.{create_collection, create_indexes, insert, drop_collection, update, delete};
+ghost use Rattle.mg_server.specs.State.{State};
 ghost use Rattle.mg_query.specs.Asking.{documents_among, held, keyed};
 ghost use Rattle.mg_query.specs.Indexing.{index_held};
 ghost use Rattle.mg_query.specs.Modifying.{lent_modification};

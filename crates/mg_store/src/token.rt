@@ -3,7 +3,7 @@ ghost use Rattle.std.specs.Prelude.{◌≡◌, ◌<◌, ◌^◌, ℕ, Some, IfOk
 ghost use Rattle.std.specs.Int.{w64, to_be_bytes};
 ghost use Rattle.hex.specs.Hex.{encode_lower};
 ghost use Rattle.mg_bson.specs.RawView.{value};
-ghost use Rattle.mg_link.specs.Rules.{token_of, token_place};
+ghost use Rattle.mg_server.specs.Rules.{token_of, token_place};
 
 use mg_bson::{Bson, RawValue};
 use mg_link::OutOfMemory;

@@ -6,7 +6,8 @@ use super::are_found;
 use super::scripted::{command_words, end_word, link_of, reply_bytes, unanswered};
 use layers::{Subject, json_bytes, written};
 use mg_bson::RawDocumentBuf;
-use mg_link::{Action, Error, ErrorKind, Exec, Retry, ScriptLink, Step, plain, verdict_of};
+use mg_exec::{Exec, Retry};
+use mg_link::{Action, Error, ErrorKind, ScriptLink, Step, plain, verdict_of};
 use std::alloc::Global;
 
 fn ping(alloc: Global) -> Result<RawDocumentBuf, Error> {

@@ -18,7 +18,8 @@ use crate::event_poll::Stepped;
 use crate::opens::tell;
 use mg_bson::RawDocumentBuf;
 use mg_cursor::{Batches, Closing, RawBatch, TryPoll, is_memory};
-use mg_link::{Action, ClientSessionHandle, Error, Exec, Link, Step};
+use mg_exec::Exec;
+use mg_link::{Action, ClientSessionHandle, Error, Link, Step};
 use mg_ops::{CursorSpecification, Operation};
 use std::mem;
 

@@ -4,7 +4,7 @@ use Rattle.std.proofs.lemmas.Int.{to_z-of_z}
 use Rattle.std.proofs.lemmas.Result.{err_from_is_err_and}
 use Rattle.std.specs.Prelude.{option_copied}
 use Rattle.mg_bson.specs.Bytes.{bytes}
-use Rattle.mg_link.specs.ExecView.{reads}
+use Rattle.mg_exec.specs.ExecView.{reads}
 use Rattle.mg_ops.specs.Failing.{FailsBy}
 use Rattle.mg_change.specs.ClientStreams.{resuming_in}
 use Rattle.mg_change.specs.Steps.{CannotResume}

@@ -1,7 +1,7 @@
 use mir.Val.{SFits}
 use Rattle.std.proofs.Common.{◌∙◌, sym, ap, rules, w32}
 use Rattle.std.proofs.lemmas.Int.{to_z-of_z}
-use Rattle.mg_link.specs.Step.{ends_cursor}
+use Rattle.mg_server.specs.Step.{ends_cursor}
 use Rattle.mg_cursor.proofs.Hearing.{ending_by, none_ends}
 use Rattle.mg_cursor.proofs.fault.ends_cursor.Goals as goal
 

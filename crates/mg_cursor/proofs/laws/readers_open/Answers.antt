@@ -1,4 +1,4 @@
-use Rattle.mg_link.proofs.Finding.{find_lost, find_sent}
+use Rattle.mg_server.proofs.Finding.{find_lost, find_sent}
 use Rattle.mg_cursor.proofs.Opening.{reader_came}
 use Rattle.mg_cursor.proofs.laws.readers_open.Goals as goal
 

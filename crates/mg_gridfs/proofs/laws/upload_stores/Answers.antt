@@ -1,5 +1,5 @@
 use Rattle.std.proofs.Common.{length}
-use Rattle.mg_link.specs.Calls.{past_of}
+use Rattle.mg_server.specs.Calls.{past_of}
 use Rattle.mg_gridfs.proofs.Holding.{idle_has, recorded_is_whole, stored_is_whole}
 use Rattle.mg_gridfs.proofs.laws.upload_stores.Goals as goal
 

@@ -1,4 +1,4 @@
-use Rattle.mg_link.proofs.Runs.{apart_after}
+use Rattle.mg_server.proofs.Runs.{apart_after}
 use Rattle.mg_jobs.proofs.laws.jobs_stay_apart.Goals as goal
 
 pub returns : goal.returns

@@ -4,15 +4,15 @@ use Rattle.std.specs.List.{sum_by}
 use Rattle.std.proofs.lemmas.List.Sums.{sum_by-cons}
 use Rattle.std.proofs.Math.Path.{fun_ext}
 use Rattle.mg_link.specs.Ids.{counted_id}
-use Rattle.mg_link.specs.History.{IsLegal}
-use Rattle.mg_link.specs.Kept.{IsByRules, state_of_kept, steps_of}
+use Rattle.mg_server.specs.History.{IsLegal}
+use Rattle.mg_server.specs.Kept.{IsByRules, state_of_kept, steps_of}
 use Rattle.mg_link.specs.Log.{Call}
-use Rattle.mg_link.specs.Owner.{NamesItsOwn}
+use Rattle.mg_server.specs.Owner.{NamesItsOwn}
 use Rattle.mg_link.specs.Places.{out_at, polls_in}
-use Rattle.mg_link.specs.Prompt.{HoldsBackNone}
-use Rattle.mg_link.specs.Standing.{Stands}
-use Rattle.mg_link.proofs.Owners.{same_some}
-use Rattle.mg_link.proofs.Runs.{names_none_at_first}
+use Rattle.mg_server.specs.Prompt.{HoldsBackNone}
+use Rattle.mg_server.specs.Standing.{Stands}
+use Rattle.mg_server.proofs.Owners.{same_some}
+use Rattle.mg_server.proofs.Runs.{names_none_at_first}
 use Rattle.mg_store.specs.InMemory.{AreAsFates, AreKept, InMemory, IsPromptLink, pends_in}
 use Rattle.mg_store.specs.Stored.{AreOpen}
 use Rattle.mg_store.specs.declared.fate.Fate.{Fate}

@@ -1,6 +1,6 @@
 use Rattle.std.proofs.Common.{Option, List, map, option_map, sym, ap, ◌∙◌}
 use Rattle.mg_bson.specs.Raw.{fields}
-use Rattle.mg_link.specs.State.{Index}
+use Rattle.mg_server.specs.State.{Index}
 use Rattle.mg_query.specs.Asking.{lent_space}
 use Rattle.mg_query.specs.Indexing.{index_held}
 use Rattle.mg_query.specs.Wanted.{Indexing, wanted}

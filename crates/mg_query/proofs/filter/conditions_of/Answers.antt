@@ -2,7 +2,7 @@ use Rattle.std.proofs.Common.{◌∷◌, [], map, option_map, ap, ◌∙◌, sym
 use Rattle.std.proofs.lemmas.List.{map-append}
 use Rattle.mg_bson.specs.Raw.{fields, fields_left}
 use Rattle.mg_bson.specs.RawView.{value}
-use Rattle.mg_link.specs.Filter.{conditions_of}
+use Rattle.mg_server.specs.Filter.{conditions_of}
 use Rattle.mg_query.specs.Asking.{held, keyed}
 use Rattle.mg_query.proofs.Conditions.{conditions_stop, conditions_more}
 use Rattle.mg_query.proofs.filter.conditions_of.Goals as goal

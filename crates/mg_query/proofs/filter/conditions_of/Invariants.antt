@@ -1,7 +1,7 @@
 use Rattle.std.proofs.Common.{◌≡◌, ◌++◌, map, option_map}
 use Rattle.mg_bson.specs.Tree.{fields_size}
 use Rattle.mg_bson.specs.Raw.{fields, fields_left}
-use Rattle.mg_link.specs.Filter.{conditions_of}
+use Rattle.mg_server.specs.Filter.{conditions_of}
 use Rattle.mg_query.specs.Asking.{held, keyed}
 use Rattle.mg_query.proofs.filter.conditions_of.Given as goal
 

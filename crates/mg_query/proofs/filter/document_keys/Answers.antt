@@ -3,7 +3,7 @@ use Rattle.std.specs.Prelude.{IfOk}
 use Rattle.mg_bson.specs.Tree.{Tree, Items, no_fields, field}
 use Rattle.mg_bson.specs.Raw.{fields, fields_left}
 use Rattle.mg_bson.specs.RawView.{value}
-use Rattle.mg_link.specs.Filter.{document_values, key}
+use Rattle.mg_server.specs.Filter.{document_values, key}
 use Rattle.mg_query.specs.Asking.{begins_operator, is_single, keys_of}
 use Rattle.mg_query.proofs.Asking.{values_of_many, values_of_operator, values_of_whole}
 use Rattle.mg_query.proofs.filter.document_keys.Goals as goal

@@ -1,8 +1,8 @@
 use Rattle.std.proofs.Common.{◌≡◌, drop, map}
 use Rattle.std.specs.List.{list_all}
-use Rattle.mg_link.specs.Query.{index_listed}
-use Rattle.mg_link.specs.Rules.{may_stay}
-use Rattle.mg_link.specs.State.{Index}
+use Rattle.mg_server.specs.Query.{index_listed}
+use Rattle.mg_server.specs.Rules.{may_stay}
+use Rattle.mg_server.specs.State.{Index}
 use Rattle.mg_query.specs.Indexing.{index_held}
 use Rattle.mg_query.proofs.index.all_may_stay.Given as goal
 

@@ -1,6 +1,6 @@
 use Rattle.std.proofs.Common.{◌≡◌, ◌++◌, ◌∷◌, drop, map}
 use Rattle.mg_bson.specs.Raw.{fields}
-use Rattle.mg_link.specs.Query.{id_index, index_listed}
+use Rattle.mg_server.specs.Query.{id_index, index_listed}
 use Rattle.mg_query.specs.Indexing.{index_held}
 use Rattle.mg_query.proofs.index.indexes_listed.Given as goal
 

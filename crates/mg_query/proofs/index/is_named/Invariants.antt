@@ -1,7 +1,7 @@
 use Rattle.std.proofs.Common.{◌≡◌, drop, map}
 use Rattle.std.specs.List.{list_any}
 use Rattle.std.specs.Str.{bytes_eq}
-use Rattle.mg_link.specs.State.{Index}
+use Rattle.mg_server.specs.State.{Index}
 use Rattle.mg_query.specs.Indexing.{index_held}
 use Rattle.mg_query.proofs.index.is_named.Given as goal
 

@@ -1,5 +1,5 @@
 use Rattle.std.proofs.Common.{◌≡◌, drop, map}
-use Rattle.mg_link.specs.Write.{with_indexes}
+use Rattle.mg_server.specs.Write.{with_indexes}
 use Rattle.mg_query.specs.Indexing.{index_held}
 use Rattle.mg_query.specs.Numbering.{indexes_there}
 use Rattle.mg_query.proofs.index.with_indexes.Given as goal

@@ -1,7 +1,7 @@
 use Rattle.std.proofs.Common.{◌≡◌}
 use Rattle.mg_bson.specs.Tree.{fields_size}
 use Rattle.mg_bson.specs.Raw.{fields, fields_left}
-use Rattle.mg_link.specs.Commands.{may_set}
+use Rattle.mg_server.specs.Commands.{may_set}
 use Rattle.mg_query.proofs.modification.may_set.Given as goal
 
 abbrev pub invariant-fields : goal.invariant-fields

@@ -1,6 +1,6 @@
 use Rattle.mg_bson.specs.Raw.{fields}
 use Rattle.mg_bson.specs.View.{tree}
-use Rattle.mg_link.specs.Rules.{set_anew}
+use Rattle.mg_server.specs.Rules.{set_anew}
 use Rattle.mg_query.proofs.Modifying.{anew_ends, anew_goes}
 use Rattle.mg_query.proofs.modification.set_anew.Goals as goal
 

@@ -2,7 +2,7 @@ use Rattle.std.proofs.Common.{◌≡◌}
 use Rattle.mg_bson.specs.Find.{joined}
 use Rattle.mg_bson.specs.Tree.{fields_size}
 use Rattle.mg_bson.specs.Raw.{fields}
-use Rattle.mg_link.specs.Rules.{set_anew}
+use Rattle.mg_server.specs.Rules.{set_anew}
 use Rattle.mg_query.proofs.modification.set_anew.Given as goal
 
 abbrev pub invariant-fields : goal.invariant-fields

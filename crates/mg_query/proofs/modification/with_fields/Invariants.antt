@@ -1,7 +1,7 @@
 use Rattle.std.proofs.Common.{◌≡◌}
 use Rattle.mg_bson.specs.Tree.{fields_size}
 use Rattle.mg_bson.specs.Raw.{fields, fields_left}
-use Rattle.mg_link.specs.Write.{with_fields}
+use Rattle.mg_server.specs.Write.{with_fields}
 use Rattle.mg_query.proofs.modification.with_fields.Given as goal
 
 abbrev pub invariant-fields : goal.invariant-fields

@@ -3,7 +3,7 @@ use Rattle.mg_bson.specs.Find.{with_field}
 use Rattle.mg_bson.specs.Raw.{fields, fields_left}
 use Rattle.mg_bson.specs.RawView.{value}
 use Rattle.mg_bson.specs.View.{tree}
-use Rattle.mg_link.specs.Write.{with_id}
+use Rattle.mg_server.specs.Write.{with_id}
 use Rattle.mg_query.proofs.Modifying.{all_behind, first_passes, other_goes}
 use Rattle.mg_query.proofs.modification.with_id.Goals as goal
 

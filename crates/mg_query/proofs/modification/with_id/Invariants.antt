@@ -3,7 +3,7 @@ use Rattle.mg_bson.specs.Find.{joined}
 use Rattle.mg_bson.specs.Tree.{fields_size}
 use Rattle.mg_bson.specs.Raw.{fields, fields_left}
 use Rattle.mg_bson.specs.View.{tree}
-use Rattle.mg_link.specs.Write.{with_id}
+use Rattle.mg_server.specs.Write.{with_id}
 use Rattle.mg_query.proofs.Modifying.{rest_behind}
 use Rattle.mg_query.proofs.modification.with_id.Given as goal
 

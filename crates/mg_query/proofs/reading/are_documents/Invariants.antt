@@ -1,7 +1,7 @@
 use Rattle.std.proofs.Common.{◌≡◌, is_some}
 use Rattle.mg_bson.specs.Tree.{items_size}
 use Rattle.mg_bson.specs.Raw.{items, items_left}
-use Rattle.mg_link.specs.Commands.{documents_in}
+use Rattle.mg_server.specs.Commands.{documents_in}
 use Rattle.mg_query.proofs.reading.are_documents.Given as goal
 
 abbrev pub invariant-items : goal.invariant-items

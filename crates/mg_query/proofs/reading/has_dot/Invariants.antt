@@ -1,5 +1,5 @@
 use Rattle.std.proofs.Common.{◌≡◌, drop}
-use Rattle.mg_link.specs.Filter.{has_dot}
+use Rattle.mg_link.specs.Namespace.{has_dot}
 use Rattle.mg_query.proofs.reading.has_dot.Given as goal
 
 abbrev pub invariant-loop-byte : goal.invariant-loop-byte

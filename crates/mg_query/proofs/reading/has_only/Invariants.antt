@@ -1,7 +1,7 @@
 use Rattle.std.proofs.Common.{◌≡◌, map}
 use Rattle.mg_bson.specs.Tree.{fields_size}
 use Rattle.mg_bson.specs.Raw.{fields, fields_left}
-use Rattle.mg_link.specs.Commands.{has_only}
+use Rattle.mg_server.specs.Commands.{has_only}
 use Rattle.mg_query.proofs.reading.has_only.Given as goal
 
 abbrev pub invariant-fields : goal.invariant-fields

@@ -1,5 +1,5 @@
 use Rattle.std.proofs.Common.{◌≡◌, drop, map}
-use Rattle.mg_link.specs.Commands.{is_name_among}
+use Rattle.mg_server.specs.Commands.{is_name_among}
 use Rattle.mg_query.proofs.reading.is_among.Given as goal
 
 abbrev pub invariant-loop-known : goal.invariant-loop-known

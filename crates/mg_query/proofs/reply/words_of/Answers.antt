@@ -1,7 +1,7 @@
 use Rattle.std.proofs.Common.{◌≡◌, map, string_bytes, rules}
 use Rattle.mg_bson.specs.Tree.{string}
 use Rattle.mg_bson.specs.View.{tree}
-use Rattle.mg_link.specs.Rules.{words_of}
+use Rattle.mg_server.specs.Rules.{words_of}
 use Rattle.mg_query.proofs.Words.{words_go_on, words_end}
 use Rattle.mg_query.proofs.reply.words_of.Goals as goal
 

@@ -1,7 +1,7 @@
 use Rattle.std.proofs.Common.{◌≡◌, ◌++◌, map, drop, codes}
 use Rattle.mg_bson.specs.Find.{get}
 use Rattle.mg_bson.specs.Raw.{fields}
-use Rattle.mg_link.specs.Query.{id_alone}
+use Rattle.mg_server.specs.Query.{id_alone}
 use Rattle.mg_query.proofs.results.with_ids_alone.Given as goal
 
 abbrev pub invariant-loop-document : goal.invariant-loop-document

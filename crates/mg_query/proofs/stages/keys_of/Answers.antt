@@ -2,7 +2,7 @@ use Rattle.std.proofs.Common.{◌∷◌, [], map, ap, ◌∙◌, sym}
 use Rattle.std.proofs.lemmas.List.{map-append}
 use Rattle.mg_bson.specs.Raw.{fields, fields_left}
 use Rattle.mg_bson.specs.RawView.{value}
-use Rattle.mg_link.specs.Commands.{keys_of}
+use Rattle.mg_server.specs.Commands.{keys_of}
 use Rattle.mg_query.specs.Querying.{held_key}
 use Rattle.std.proofs.Common.{option_map}
 use Rattle.mg_query.proofs.Staging.{keys_more}

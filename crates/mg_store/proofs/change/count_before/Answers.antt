@@ -1,8 +1,8 @@
 use Rattle.std.proofs.Common.{◌≡◌, ℕ, ◌+◌, ◌≤◌, length, drop, List, ap, ap₂, ◌∙◌, arith, rules}
 use Rattle.std.proofs.lemmas.List.{drop_all}
 use Rattle.mg_bson.specs.Tree.{timestamp}
-use Rattle.mg_link.specs.Rules.{now_of, seconds_of}
-use Rattle.mg_link.specs.State.{Entry, count_before, time_of}
+use Rattle.mg_server.specs.Rules.{now_of, seconds_of}
+use Rattle.mg_server.specs.State.{Entry, count_before, time_of}
 use Rattle.mg_store.specs.Holding.{entries_from}
 use Rattle.mg_store.proofs.Entries.{counted_at, length-entries}
 use Rattle.mg_store.proofs.change.count_before.Goals as goal

@@ -1,5 +1,5 @@
 use Rattle.std.proofs.Common.{◌≡◌, ◌+◌, ◌≤◌, drop}
-use Rattle.mg_link.specs.State.{count_before}
+use Rattle.mg_server.specs.State.{count_before}
 use Rattle.mg_store.specs.Holding.{entries_from}
 use Rattle.mg_store.proofs.change.count_before.Given as goal
 

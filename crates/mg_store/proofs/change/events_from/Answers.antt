@@ -4,8 +4,8 @@ use Rattle.std.proofs.lemmas.Bool.{and_from, and_left, and_right, lt-ltb, le-ltb
 use Rattle.mg_bson.specs.Bytes.{bytes}
 use Rattle.mg_bson.specs.Tree.{document}
 use Rattle.mg_bson.specs.Find.{with_item}
-use Rattle.mg_link.specs.State as state
-use Rattle.mg_link.specs.State.{Entry, sees}
+use Rattle.mg_server.specs.State as state
+use Rattle.mg_server.specs.State.{Entry, sees}
 use Rattle.mg_query.specs.Selecting.{selecting}
 use Rattle.mg_store.specs.Holding.{AreExact, IsWatch, entries_from, entry_at}
 use Rattle.mg_store.proofs.Seeing.{selected_watch}

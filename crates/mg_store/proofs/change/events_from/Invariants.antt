@@ -1,5 +1,5 @@
 use Rattle.std.proofs.Common.{◌≤◌}
-use Rattle.mg_link.specs.State as state
+use Rattle.mg_server.specs.State as state
 use Rattle.mg_store.specs.Holding.{AreExact, IsWatch, entries_from}
 use Rattle.mg_store.proofs.Batches.{Stands}
 use Rattle.mg_store.proofs.change.events_from.Given as goal

@@ -2,7 +2,7 @@ use Rattle.std.proofs.Common.{◌≡◌, ℤ, None, drop}
 use Rattle.std.specs.Prelude.{if◌then◌else◌}
 use Rattle.std.specs.BTreeMap.{get}
 use Rattle.std.specs.Ordering.{int_cmp}
-use Rattle.mg_link.specs.Rules.{is_id_among}
+use Rattle.mg_server.specs.Rules.{is_id_among}
 use Rattle.mg_store.proofs.content.remove_cursors.Given as goal
 
 abbrev pub invariant-loop-id : goal.invariant-loop-id

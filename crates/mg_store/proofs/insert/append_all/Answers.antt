@@ -2,7 +2,7 @@ use Rattle.std.proofs.Common.{◌≡◌, ◌+◌, suc, length, true, false, Bool
 use Rattle.mg_bson.specs.Tree.{Fields, Items}
 use Rattle.mg_bson.specs.Raw.{items, items_left}
 use Rattle.mg_link.specs.Namespace.{space}
-use Rattle.mg_link.specs.Rules.{inserting}
+use Rattle.mg_server.specs.Rules.{inserting}
 use Rattle.mg_query.specs.Asking.{ahead, documents_among}
 use Rattle.mg_query.specs.Numbering.{KeepsIdsThere, there}
 use Rattle.mg_store.specs.Inserting.{Takes}

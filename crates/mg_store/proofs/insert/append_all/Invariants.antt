@@ -1,7 +1,7 @@
 use Rattle.mg_bson.specs.Tree.{items_size}
 use Rattle.mg_bson.specs.Raw.{items, items_left}
 use Rattle.mg_link.specs.Namespace.{space}
-use Rattle.mg_link.specs.Rules.{inserting}
+use Rattle.mg_server.specs.Rules.{inserting}
 use Rattle.mg_query.specs.Asking.{documents_among}
 use Rattle.mg_query.specs.Numbering.{KeepsIdsThere, there}
 use Rattle.mg_store.proofs.Appending.{Going}

@@ -2,7 +2,7 @@ use Rattle.std.proofs.Common.{◌≡◌, Some, sym, ap, ◌∙◌}
 use Rattle.mg_bson.specs.Tree.{Tree}
 use Rattle.mg_bson.specs.View.{tree}
 use Rattle.mg_link.specs.Namespace.{space}
-use Rattle.mg_link.specs.Rules.{insert_event}
+use Rattle.mg_server.specs.Rules.{insert_event}
 use Rattle.mg_store.proofs.insert.inserted_entry.Goals as goal
 
 pub returns : goal.returns

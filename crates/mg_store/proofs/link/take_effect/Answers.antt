@@ -1,7 +1,7 @@
 use Rattle.std.proofs.Common.{◌≡◌, ℤ, map, string_bytes, refl, subst, rules, to_z, of_z, w32}
 use mir.Val.{SFits}
 use Rattle.std.proofs.lemmas.Int.{to_z-of_z}
-use Rattle.mg_link.specs.Rules.{refusal}
+use Rattle.mg_server.specs.Rules.{refusal}
 use Rattle.mg_store.specs.InMemory.{Performed}
 use Rattle.mg_store.proofs.link.take_effect.Goals as goal
 

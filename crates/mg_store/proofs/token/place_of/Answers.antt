@@ -2,9 +2,9 @@ use Rattle.std.proofs.Common.{◌≡◌, true, false, ℕ, Some, None, sym, ap, 
 use Rattle.std.proofs.lemmas.Slice.Eq.{bytes_eq-Decides}
 use Rattle.mg_bson.specs.Tree.{Fields, document}
 use Rattle.mg_bson.specs.RawView.{value}
-use Rattle.mg_link.specs.Filter.{key}
-use Rattle.mg_link.specs.Rules.{token_of}
-use Rattle.mg_link.proofs.Tokens.{no_place}
+use Rattle.mg_server.specs.Filter.{key}
+use Rattle.mg_server.specs.Rules.{token_of}
+use Rattle.mg_server.proofs.Tokens.{no_place}
 use Rattle.mg_store.proofs.Places.{place_by_key}
 use Rattle.mg_store.proofs.token.place_of.Goals as goal
 use Rattle.mg_store.proofs.token.place_of.Goals.{then-eq, else-eq}

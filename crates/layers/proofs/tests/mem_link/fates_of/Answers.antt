@@ -1,6 +1,6 @@
 use Rattle.std.proofs.Common.{◌≡◌, ◌≤◌, ℤ, pos, length, [], refl, arith}
 use Rattle.mg_bson.specs.Bytes.{bytes, le32}
-use Rattle.mg_link.specs.Rules.{refusal}
+use Rattle.mg_server.specs.Rules.{refusal}
 use Rattle.layers.proofs.tests.mem_link.fates_of.Goals as goal
 
 refusal_length : (code : ℤ) → length (bytes (refusal code [])) ≡ 83

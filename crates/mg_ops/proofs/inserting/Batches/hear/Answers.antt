@@ -1,5 +1,5 @@
 use Rattle.std.proofs.Common.{refl, subst, sym}
-use Rattle.mg_link.proofs.Killing.{plain_ran}
+use Rattle.mg_server.proofs.Killing.{plain_ran}
 use Rattle.mg_ops.specs.Inserts.{IsPlain}
 use Rattle.mg_ops.proofs.InsertCauses.{failed_caused, inserted_caused, pending_caused, unread_caused}
 use Rattle.mg_ops.proofs.InsertSends.{failed_once, inserted_once, pending_once, unread_once}

@@ -1,12 +1,12 @@
 use Rattle.std.proofs.Common.{length, refl, sym, ◌∙◌, arith}
 use Rattle.mg_link.proofs.Onward.{later_on, later_same, tickets_on, tickets_same}
-use Rattle.mg_link.proofs.Killing.{plain_on, plain_stayed}
+use Rattle.mg_server.proofs.Killing.{plain_on, plain_stayed}
 use Rattle.mg_ops.specs.InsertCauses.{IsInsertOf}
 use Rattle.mg_ops.specs.Inserts.{held}
 use Rattle.mg_ops.proofs.InsertCauses.{led_failed, led_finished, led_inserted, led_pending, led_stopped}
 use Rattle.mg_ops.proofs.InsertSends.{leads_first, sent_failed, sent_finished, sent_inserted, sent_pending, sent_stopped}
 use Rattle.mg_ops.proofs.Plainly.{tickets_from}
-use Rattle.mg_link.proofs.Adding.{adds_none}
+use Rattle.mg_server.proofs.Adding.{adds_none}
 use Rattle.mg_ops.proofs.Sendings.{leads_failed, leads_finished, leads_inserted, leads_pending, leads_stopped, same_list_on}
 use Rattle.mg_ops.proofs.inserting.InsertingAction.poll.Goals as goal
 

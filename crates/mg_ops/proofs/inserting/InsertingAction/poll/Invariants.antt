@@ -1,7 +1,7 @@
 use Rattle.std.proofs.Common.{◌≡◌}
 use Rattle.mg_link.specs.Acts.{Tickets}
 use Rattle.mg_link.specs.Link.{Later}
-use Rattle.mg_link.specs.Owner.{PassesPlain}
+use Rattle.mg_server.specs.Owner.{PassesPlain}
 use Rattle.mg_ops.specs.InsertCauses.{LeadsCaused}
 use Rattle.mg_ops.specs.InsertSends.{LeadsSent}
 use Rattle.mg_ops.specs.Inserts.{HeldPlain, SendsPlain, held, insert_ticket, left_of}

@@ -1,5 +1,5 @@
 use Rattle.std.proofs.Common.{false, refl}
-use Rattle.mg_link.proofs.Killing.{plain_stayed}
+use Rattle.mg_server.proofs.Killing.{plain_stayed}
 use Rattle.mg_players.specs.declared.insert.InsertStage.TheVariants as inserts
 use Rattle.mg_script.specs.declared.outcome.Ended.TheVariants as ended
 use Rattle.mg_players.proofs.Advancing.{insert_done, insert_over, insert_waits}

@@ -2,7 +2,7 @@ use Rattle.std.proofs.Common.{◌≡◌, Err, [], ◌∙◌, subst, rules, to_z,
 use mir.Val.{SFits}
 use Rattle.std.proofs.lemmas.Int.{to_z-of_z}
 use Rattle.std.specs.Prelude.{IfOk}
-use Rattle.mg_link.specs.Rules.{refusal}
+use Rattle.mg_server.specs.Rules.{refusal}
 use Rattle.mg_query.specs.Wanted.{refusal_code}
 use Rattle.mg_query.specs.declared.refusal.Stop.{Stop}
 use Rattle.mg_store.specs.Answering.{Replies}

@@ -1,10 +1,10 @@
 use Rattle.std.proofs.Common.{◌≡◌, List, map, ap, sym, ◌∙◌}
 use Rattle.std.specs.List.{list_all}
 use Rattle.mg_link.specs.Namespace.{space}
-use Rattle.mg_link.specs.Query.{index_listed}
-use Rattle.mg_link.specs.Rules.{may_stay}
-use Rattle.mg_link.specs.State.{Index, indexes_of}
-use Rattle.mg_link.specs.Write.{with_indexes}
+use Rattle.mg_server.specs.Query.{index_listed}
+use Rattle.mg_server.specs.Rules.{may_stay}
+use Rattle.mg_server.specs.State.{Index, indexes_of}
+use Rattle.mg_server.specs.Write.{with_indexes}
 use Rattle.mg_query.specs.Indexing.{index_held}
 use Rattle.mg_store.proofs.Holdings.{indexes_are, indexes_settle, indexes_refused}
 use Rattle.mg_store.proofs.Maps.{found_at}

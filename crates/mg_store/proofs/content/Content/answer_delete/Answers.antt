@@ -3,7 +3,7 @@ use Rattle.std.proofs.lemmas.Result.{err_from_is_err_and}
 use Rattle.std.specs.Option.{option_copied}
 use denote.Ref.{Bor}
 use Rattle.mg_link.specs.Namespace.{space}
-use Rattle.mg_link.specs.Rules.{deleted_reply}
+use Rattle.mg_server.specs.Rules.{deleted_reply}
 use Rattle.mg_query.specs.Asking.{held}
 use Rattle.mg_query.specs.Querying.{lent}
 use Rattle.mg_store.specs.Contents.{collection_at}

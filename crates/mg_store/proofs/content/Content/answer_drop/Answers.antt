@@ -1,6 +1,6 @@
 use Rattle.std.proofs.Common.{◌≡◌, ℕ, arith, length, true, false, is_some, ap, sym, ◌∙◌, subst}
 use Rattle.mg_link.specs.Namespace.{Space, space}
-use Rattle.mg_link.specs.Rules.{dropped_entries}
+use Rattle.mg_server.specs.Rules.{dropped_entries}
 use Rattle.mg_store.specs.Contents.{collection_at}
 use Rattle.mg_store.specs.Holding.{entries_from}
 use Rattle.mg_store.proofs.Holdings.{drop_settles, drop_refused}

@@ -3,7 +3,7 @@ use Rattle.std.specs.BTreeMap.{get}
 use Rattle.std.specs.Ordering.{int_cmp}
 use Rattle.std.proofs.lemmas.Int.{to_z-of_z}
 use Rattle.mg_link.specs.Namespace.{space}
-use Rattle.mg_link.specs.Rules.{more}
+use Rattle.mg_server.specs.Rules.{more}
 use Rattle.mg_store.specs.Contents.{Settles}
 use Rattle.mg_store.proofs.Holdings.{cursor_some, found_held}
 use Rattle.mg_store.proofs.content.Content.answer_get_more.Goals as goal

@@ -4,7 +4,7 @@ use Rattle.mg_bson.specs.Tree.{Items, int32}
 use Rattle.mg_bson.specs.Raw.{items}
 use Rattle.mg_bson.specs.Literal.{◌⇒◌⨾◌, empty}
 use Rattle.mg_link.specs.Namespace.{space}
-use Rattle.mg_link.specs.Rules.{errors_field, inserting, number_of}
+use Rattle.mg_server.specs.Rules.{errors_field, inserting, number_of}
 use Rattle.mg_query.specs.Asking.{documents_among}
 use Rattle.mg_query.specs.Numbering.{there}
 use Rattle.mg_store.specs.Contents.{collection_at}

@@ -8,7 +8,7 @@ use Rattle.std.specs.Ordering.{int_cmp, int_eq, is_eq}
 use Rattle.mg_bson.specs.Tree.{int64}
 use Rattle.mg_bson.specs.Find.{with_item}
 use Rattle.mg_bson.specs.Raw.{items, items_left}
-use Rattle.mg_link.specs.Rules.{is_id_among, is_killed, same_answer}
+use Rattle.mg_server.specs.Rules.{is_id_among, is_killed, same_answer}
 use Rattle.mg_query.specs.Asking.{ahead, ids_among}
 use Rattle.mg_store.proofs.Holdings.{held_is, kill_settles}
 use Rattle.mg_store.proofs.Killing.{Lists, among_push, killed_when, lists_end, lists_more}

@@ -3,8 +3,8 @@ use Rattle.std.specs.BTreeSet.{contains}
 use Rattle.std.specs.Ordering.{int_cmp}
 use Rattle.mg_bson.specs.Tree.{items_size}
 use Rattle.mg_bson.specs.Raw.{items, items_left}
-use Rattle.mg_link.specs.State.{State}
-use Rattle.mg_link.specs.Rules.{is_id_among}
+use Rattle.mg_server.specs.State.{State}
+use Rattle.mg_server.specs.Rules.{is_id_among}
 use Rattle.mg_query.specs.Asking.{ids_among}
 use Rattle.mg_store.specs.Contents.{Represents}
 use Rattle.mg_store.proofs.Killing.{Lists}

@@ -1,6 +1,6 @@
 use Rattle.std.proofs.Common.{◌≡◌, Some, false, is_some, map, ◌∷◌, refl, sym, ap, ◌∙◌}
 use Rattle.mg_link.specs.Namespace.{space}
-use Rattle.mg_link.specs.Query.{id_index, index_listed}
+use Rattle.mg_server.specs.Query.{id_index, index_listed}
 use Rattle.mg_query.specs.Indexing.{index_held}
 use Rattle.mg_store.specs.Contents.{collection_at}
 use Rattle.mg_store.proofs.Holdings.{indexes_found, indexes_missing}

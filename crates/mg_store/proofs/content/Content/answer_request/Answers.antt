@@ -5,8 +5,8 @@ use Rattle.std.proofs.lemmas.Result.{err_from_is_err_and}
 use Rattle.mg_bson.specs.Raw.{items}
 use Rattle.mg_link.specs.Namespace.{space}
 use Rattle.mg_query.specs.Asking.{held, ids_among, lent_space, lent_target}
-use Rattle.mg_link.specs.Query.{of_database}
-use Rattle.mg_link.specs.Rules.{more}
+use Rattle.mg_server.specs.Query.{of_database}
+use Rattle.mg_server.specs.Rules.{more}
 use Rattle.mg_query.specs.Wanted.{lent_request, lent_start}
 use Rattle.mg_query.specs.Querying.{held_stage}
 use Rattle.mg_store.specs.Contents.{Settles}

@@ -3,7 +3,7 @@ use mir.Val.{SFits}
 use Rattle.std.proofs.lemmas.Int.{ints, to_z-of_z}
 use Rattle.mg_bson.specs.Tree.{timestamp}
 use Rattle.mg_link.specs.Namespace.{space}
-use Rattle.mg_link.specs.Rules.{id_unless, stamp_of, watch_space}
+use Rattle.mg_server.specs.Rules.{id_unless, stamp_of, watch_space}
 use Rattle.mg_query.specs.Wanted.{lent_start}
 use Rattle.mg_store.specs.Contents.{opening_effect}
 use Rattle.mg_store.specs.declared.cursor.Source.TheVariants as sources

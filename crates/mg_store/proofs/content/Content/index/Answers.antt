@@ -3,8 +3,8 @@ use Rattle.std.specs.Prelude.{if◌then◌else◌, unwrap_or}
 use Rattle.std.proofs.lemmas.Result.{err_from_is_err_and}
 use Rattle.mg_bson.specs.Tree.{Fields}
 use Rattle.mg_link.specs.Namespace.{space}
-use Rattle.mg_link.specs.State.{is_space}
-use Rattle.mg_link.specs.Step.{documents_of}
+use Rattle.mg_server.specs.State.{is_space}
+use Rattle.mg_server.specs.Step.{documents_of}
 use Rattle.mg_query.specs.Numbering.{KeepsIds, stored}
 use Rattle.mg_query.specs.declared.collection.Collection.{Collection}
 use Rattle.mg_store.specs.Contents.{collection_at}

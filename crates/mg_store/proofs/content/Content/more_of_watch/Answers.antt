@@ -2,7 +2,7 @@ use Rattle.std.proofs.Common.{◌≡◌, ℤ, sym, ap, ◌∙◌, rules, to_z, o
 use mir.Val.{SFits}
 use Rattle.std.proofs.lemmas.Int.{to_z-of_z}
 use Rattle.mg_link.specs.Namespace.{space}
-use Rattle.mg_link.specs.Rules.{id_unless}
+use Rattle.mg_server.specs.Rules.{id_unless}
 use Rattle.mg_store.specs.Contents.{moving}
 use Rattle.mg_store.proofs.Holdings.{batch_is, more_settles, next_with}
 use Rattle.mg_store.proofs.content.Content.more_of_watch.Goals as goal

@@ -2,8 +2,8 @@ use Rattle.std.proofs.Common.{◌≡◌, ℕ, List, length, true, false, Ok, Err
 use Rattle.std.specs.Prelude.{◌&&◌, if◌then◌else◌}
 use Rattle.std.proofs.lemmas.Bool.{and_left, and_right}
 use Rattle.mg_bson.specs.RawView.{value}
-use Rattle.mg_link.specs.Rules.{ended_before, no_such_token, place_after, token_place}
-use Rattle.mg_link.specs.State.{Entry}
+use Rattle.mg_server.specs.Rules.{ended_before, no_such_token, place_after, token_place}
+use Rattle.mg_server.specs.State.{Entry}
 use Rattle.mg_store.specs.Holding.{entries_from}
 use Rattle.mg_store.specs.declared.change.ChangeEntry.{ChangeEntry}
 use Rattle.mg_store.proofs.Entries.{length-entries}

@@ -1,5 +1,5 @@
 use Rattle.std.proofs.Common.{◌≡◌, length, Ok, ap, ◌∙◌, arith}
-use Rattle.mg_link.specs.Rules.{place_at}
+use Rattle.mg_server.specs.Rules.{place_at}
 use Rattle.mg_query.specs.Wanted.{lent_start}
 use Rattle.mg_store.proofs.Entries.{length-entries}
 use Rattle.mg_store.proofs.content.Content.place_at.Goals as goal

@@ -1,7 +1,7 @@
 use Rattle.std.proofs.Common.{ℕ, Result, Ok, Err, OnErr, refl, subst, rules, w64}
 use mir.Val.{SFits}
 use Rattle.std.proofs.lemmas.Int.{to_z-of_z}
-use Rattle.mg_link.specs.State.{State}
+use Rattle.mg_server.specs.State.{State}
 use Rattle.mg_store.specs.Contents.{Leads, Represents}
 use Rattle.mg_store.specs.declared.cursor.Cursor as code
 use Rattle.mg_store.specs.declared.content.Content.{Content}

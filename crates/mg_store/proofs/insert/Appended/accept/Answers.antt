@@ -8,7 +8,7 @@ use Rattle.std.proofs.lemmas.List.Folds.{list_any-append}
 use Rattle.mg_bson.specs.Tree.{Tree, Fields}
 use Rattle.mg_bson.specs.Bytes.{bytes}
 use Rattle.mg_bson.specs.Find.{get}
-use Rattle.mg_link.specs.Filter.{key}
+use Rattle.mg_server.specs.Filter.{key}
 use Rattle.mg_query.specs.Numbering.{HaveNewIds, IsExact, IsKeyed, KeepsIdsThere, document_of, holds_id, is_of_id, there, vec_cmp}
 use Rattle.mg_query.specs.declared.collection.KeyedDocument.{KeyedDocument}
 use Rattle.mg_query.proofs.Ids.{accept_new, accept_twice, holds_push, new_push}

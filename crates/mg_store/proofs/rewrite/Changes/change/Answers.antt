@@ -4,8 +4,8 @@ use Rattle.mg_bson.specs.Bytes.{bytes}
 use Rattle.mg_bson.specs.Raw.{fields}
 use Rattle.mg_bson.specs.Tree.{Fields}
 use Rattle.mg_link.specs.Namespace.{space}
-use Rattle.mg_link.specs.Rules.{may_stay}
-use Rattle.mg_link.specs.Write.{modified}
+use Rattle.mg_server.specs.Rules.{may_stay}
+use Rattle.mg_server.specs.Write.{modified}
 use Rattle.mg_query.specs.Modifying.{lent_modification}
 use Rattle.mg_store.specs.Rewriting.{GivesEvent}
 use Rattle.mg_store.proofs.rewrite.Changes.change.Goals as goal

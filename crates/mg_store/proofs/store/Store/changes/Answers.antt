@@ -1,5 +1,5 @@
 use Rattle.std.proofs.Common.{ap, sym, subst, ◌∙◌}
-use Rattle.mg_link.specs.Kept.{state_of_kept}
+use Rattle.mg_server.specs.Kept.{state_of_kept}
 use Rattle.mg_store.specs.Holding.{AreExact, entries_from}
 use Rattle.mg_store.specs.Stored.{Stored, steps_of}
 use Rattle.mg_store.proofs.Keeping.{changes_are, changes_exact}

@@ -3,8 +3,8 @@ use Rattle.std.proofs.lemmas.Result.{IfOk-weaker}
 use Rattle.mg_bson.specs.Bytes.{bytes}
 use Rattle.mg_bson.specs.Raw.{fields}
 use Rattle.mg_link.specs.Namespace.{space}
-use Rattle.mg_link.specs.Step.{documents_of}
-use Rattle.mg_link.specs.Kept.{state_of_kept}
+use Rattle.mg_server.specs.Step.{documents_of}
+use Rattle.mg_server.specs.Kept.{state_of_kept}
 use Rattle.mg_query.proofs.Numbers.{lent_fields}
 use Rattle.mg_store.specs.Stored.{Stored, steps_of}
 use Rattle.mg_store.proofs.Keeping.{documents_exact, documents_shown}

@@ -2,9 +2,9 @@ use Rattle.std.proofs.Common.{ℤ, List, ap, ◌∙◌, subst, arith}
 use Rattle.std.specs.BTreeMap.{keys}
 use Rattle.std.specs.Ordering.{eq_by_cmp, int_cmp}
 use Rattle.std.specs.Set.{is_member}
-use Rattle.mg_link.specs.History.{IsLegal}
-use Rattle.mg_link.specs.Kept as kept
-use Rattle.mg_link.specs.Prompt.{HoldsBackNone}
+use Rattle.mg_server.specs.History.{IsLegal}
+use Rattle.mg_server.specs.Kept as kept
+use Rattle.mg_server.specs.Prompt.{HoldsBackNone}
 use Rattle.mg_store.specs.Stored.{AreOpen, Stored, steps_of}
 use Rattle.mg_store.proofs.Keeping.{keeps_legal, keeps_prompt, open_ids}
 use Rattle.mg_store.proofs.store.Store.history.Goals as goal

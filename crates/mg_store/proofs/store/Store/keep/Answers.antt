@@ -1,6 +1,6 @@
 use Rattle.std.proofs.Common.{◌≡◌, ℕ, ◌<◌, ◌^◌, List, [], ◌∷◌, ◌++◌, length, sym, ap, ap₂, ◌∙◌, subst, arith}
 use Rattle.std.proofs.lemmas.List.{map-append}
-use Rattle.mg_link.specs.Kept.{Kept}
+use Rattle.mg_server.specs.Kept.{Kept}
 use Rattle.mg_link.specs.declared.history.HistoryStep.{HistoryStep}
 use Rattle.mg_store.specs.Contents.{HasKept, MayKeep}
 use Rattle.mg_store.specs.Stored.{Stored, kept_of, steps_of}

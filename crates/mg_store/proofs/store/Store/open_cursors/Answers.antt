@@ -2,7 +2,7 @@ use Rattle.std.proofs.Common.{ℤ, List, ap, ◌∙◌, subst}
 use Rattle.std.specs.BTreeMap.{keys}
 use Rattle.std.specs.Ordering.{eq_by_cmp, int_cmp}
 use Rattle.std.specs.Set.{is_member}
-use Rattle.mg_link.specs.Kept.{state_of_kept}
+use Rattle.mg_server.specs.Kept.{state_of_kept}
 use Rattle.mg_store.specs.Stored.{AreOpen, Stored, steps_of}
 use Rattle.mg_store.proofs.Keeping.{open_ids}
 use Rattle.mg_store.proofs.store.Store.open_cursors.Goals as goal

@@ -1,11 +1,11 @@
 use Rattle.std.proofs.Common.{◌≡◌, ℕ, suc, pos, List, Result, Ok, Err, IfOk, ap, sym, subst}
 use Rattle.mg_bson.specs.Tree.{Fields}
 use Rattle.mg_bson.specs.Raw.{fields}
-use Rattle.mg_link.specs.Kept.{IsReply, Kept, given_of, state_of_kept}
-use Rattle.mg_link.specs.Kept as kept
-use Rattle.mg_link.specs.Rules.{answer_of}
+use Rattle.mg_server.specs.Kept.{IsReply, Kept, given_of, state_of_kept}
+use Rattle.mg_server.specs.Kept as kept
+use Rattle.mg_server.specs.Rules.{answer_of}
 use Rattle.mg_link.specs.declared.history.Receipt.{Receipt}
-use Rattle.mg_link.proofs.Ordered.{state_ordered}
+use Rattle.mg_server.proofs.Ordered.{state_ordered}
 use Rattle.mg_store.specs.Contents.{MayKeep}
 use Rattle.mg_store.specs.Stored.{Stored, steps_of}
 use Rattle.mg_store.proofs.Keeping.{may_by_rules}

@@ -1,8 +1,8 @@
 use Rattle.std.proofs.Common.{◌≡◌, ℕ, ℤ, List, Option, Bool, map, string_bytes, ap, ap₂, ◌∙◌, subst, to_z, of_z, w32}
 use Rattle.std.proofs.lemmas.Int.{to_z-of_z}
-use Rattle.mg_link.specs.Rules.{refusal}
-use Rattle.mg_link.specs.Step.{ends_cursor}
-use Rattle.mg_link.specs.Kept.{IsReply}
+use Rattle.mg_server.specs.Rules.{refusal}
+use Rattle.mg_server.specs.Step.{ends_cursor}
+use Rattle.mg_server.specs.Kept.{IsReply}
 use Rattle.mg_store.specs.Contents.{closing}
 use Rattle.mg_store.proofs.Keeping.{may_by_choice}
 use Rattle.mg_store.proofs.store.Store.refuse.Goals as goal

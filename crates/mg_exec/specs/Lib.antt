@@ -1,0 +1,2 @@
+pub mod ExecView
+pub mod Attempts

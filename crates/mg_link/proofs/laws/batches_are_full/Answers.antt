@@ -1,5 +1,0 @@
-use Rattle.mg_link.proofs.Batched.{is_full}
-use Rattle.mg_link.proofs.laws.batches_are_full.Goals as goal
-
-pub returns : goal.returns
-returns c = is_full

@@ -1,5 +1,0 @@
-use Rattle.mg_link.proofs.AtOnce.{kept_prompt}
-use Rattle.mg_link.proofs.laws.kept_holds_nothing_back.Goals as goal
-
-pub returns : goal.returns
-returns c = kept_prompt

@@ -1,5 +1,0 @@
-use Rattle.mg_link.proofs.Legal.{kept_tells}
-use Rattle.mg_link.proofs.laws.kept_tells_its_inserts.Goals as goal
-
-pub returns : goal.returns
-returns c = kept_tells

@@ -1,5 +1,0 @@
-use Rattle.mg_link.proofs.Resuming.{view_later}
-use Rattle.mg_link.proofs.laws.longer_histories_agree.Goals as goal
-
-pub returns-clause-view : goal.returns-clause-view
-returns-clause-view c = view_later

@@ -1,5 +1,0 @@
-use Rattle.mg_link.proofs.Readers.{read_gives}
-use Rattle.mg_link.proofs.laws.readers_give.Goals as goal
-
-pub returns : goal.returns
-returns c = read_gives

@@ -1,5 +1,0 @@
-use Rattle.mg_link.proofs.Readers.{reader_kept}
-use Rattle.mg_link.proofs.laws.readers_go_on_knowing.Goals as goal
-
-pub returns : goal.returns
-returns c = reader_kept

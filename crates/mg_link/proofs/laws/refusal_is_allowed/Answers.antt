@@ -1,5 +1,0 @@
-use Rattle.mg_link.proofs.Allowed.{refusal_allowed}
-use Rattle.mg_link.proofs.laws.refusal_is_allowed.Goals as goal
-
-pub returns : goal.returns
-returns c s given started kept code labels h lt e = refusal_allowed s given started kept code labels h lt e

@@ -1,5 +1,0 @@
-use Rattle.mg_link.proofs.Sorting.{is_sorted}
-use Rattle.mg_link.proofs.laws.sorted_by_keys.Goals as goal
-
-pub returns : goal.returns
-returns c = is_sorted

@@ -1,5 +1,0 @@
-use Rattle.mg_link.proofs.Filling.{is_full_batch}
-use Rattle.mg_link.proofs.laws.watch_batches_are_full.Goals as goal
-
-pub returns : goal.returns
-returns c = is_full_batch

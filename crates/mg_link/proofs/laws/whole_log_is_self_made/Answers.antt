@@ -1,5 +1,0 @@
-use Rattle.mg_link.proofs.SelfMade.{names_whole}
-use Rattle.mg_link.proofs.laws.whole_log_is_self_made.Goals as goal
-
-pub returns : goal.returns
-returns c = names_whole

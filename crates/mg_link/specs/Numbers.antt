@@ -1,0 +1,17 @@
+-- Whole numbers in commands, replies and records.
+use Rattle.std.specs.Prelude.{ℕ, ℤ, pos, Option, Some, None, option_and_then}
+use Rattle.mg_bson.specs.Tree.{Tree, int32, int64}
+
+-- a whole number, in 32 or 64 bits
+abbrev pub as_integer : Tree → Option ℤ
+as_integer (int32 z) = Some z
+as_integer (int64 z) = Some z
+as_integer _ = None
+
+-- a number that is not negative
+abbrev pub as_count : ℤ → Option ℕ
+as_count (pos n) = Some n
+as_count _ = None
+
+abbrev pub count_of : Tree → Option ℕ
+count_of t = option_and_then as_count (as_integer t)
