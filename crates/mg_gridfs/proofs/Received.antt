@@ -10,7 +10,7 @@ use Rattle.mg_bson.specs.Spans.{array_inside, documents_inside}
 use Rattle.mg_bson.specs.Tree.{Fields, Items, item, no_fields, no_items}
 use Rattle.mg_bson.proofs.Options.{map_some}
 use Rattle.mg_server.specs.Commands.{documents_in}
-use Rattle.mg_server.specs.Files.{number_at}
+use Rattle.mg_link.specs.Numbers.{number_at}
 use Rattle.mg_link.specs.declared.error.Error.{Error}
 use Rattle.mg_link.specs.declared.error.Malformed.{Malformed}
 use Rattle.mg_link.specs.declared.error.Malformed.TheVariants as malformed

@@ -9,7 +9,7 @@ use Rattle.mg_bson.specs.Raw.{items}
 use Rattle.mg_bson.specs.Spans.{documents_inside}
 use Rattle.mg_bson.specs.Tree.{Fields, Items, item, no_items}
 use Rattle.mg_link.specs.Errors.{plain}
-use Rattle.mg_server.specs.Files.{number_at}
+use Rattle.mg_link.specs.Numbers.{number_at}
 use Rattle.mg_link.specs.Link.{Awaited, LogTold}
 use Rattle.mg_link.specs.Moment.{LinkKeeps, Moment, finished}
 use Rattle.mg_link.specs.declared.error.Error.{Error}

@@ -4,7 +4,7 @@ use Rattle.std.specs.Ordering.{int_eq}
 use Rattle.mg_bson.specs.Find.{as_binary, as_document, get}
 use Rattle.mg_bson.specs.Tree.{Fields, Items, item, no_items}
 use Rattle.mg_link.specs.Errors.{plain}
-use Rattle.mg_server.specs.Files.{number_at}
+use Rattle.mg_link.specs.Numbers.{number_at}
 use Rattle.mg_link.specs.declared.error.Error.{Error}
 use Rattle.mg_link.specs.declared.error.ErrorKind.TheVariants as kind
 use Rattle.mg_link.specs.declared.error.GridFsErrorKind.TheVariants as grid

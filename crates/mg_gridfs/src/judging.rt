@@ -5,7 +5,7 @@ ghost use Rattle.mg_bson.specs.Find.{as_binary};
 ghost use Rattle.mg_bson.specs.Raw.{fields, items};
 ghost use Rattle.mg_bson.specs.RawView.{value};
 ghost use Rattle.mg_bson.specs.Tree.{Items, item};
-ghost use Rattle.mg_server.specs.Files.{number_at};
+ghost use Rattle.mg_link.specs.Numbers.{number_at};
 ghost use Rattle.mg_records.specs.FileRecords.{file_record};
 ghost use Rattle.mg_gridfs.specs.Downloads.{all_judged, broken, data_of, judged, missing_chunk, of_subtype_0, sized_as, wrong_size};
 ghost use Rattle.mg_gridfs.specs.Judging.{IsPlaceBehind, JudgesOne, TakesChunk, judged_if, sized_if};

@@ -5,7 +5,7 @@ use Rattle.std.specs.Prelude.{◌==◌, codes, if◌then◌else◌, length, pos}
 use Rattle.mg_bson.specs.Tree.{Fields}
 use Rattle.mg_server.specs.Calls.{Past, RequestFails}
 use Rattle.mg_link.specs.Errors.{plain}
-use Rattle.mg_server.specs.Files.{number_at}
+use Rattle.mg_link.specs.Numbers.{number_at}
 use Rattle.mg_server.specs.History.{IsLegal, Step}
 use Rattle.mg_link.specs.Link.{Awaited}
 use Rattle.mg_link.specs.Log.{Call}

@@ -6,8 +6,8 @@ use Rattle.std.proofs.lemmas.Bool.{eq-eqb}
 use Rattle.mg_bson.specs.Find.{as_binary, as_date_time, as_document, as_int32, as_string, get}
 use Rattle.mg_bson.specs.Reading.{◌>>=◌}
 use Rattle.mg_bson.specs.Tree.{Fields, Tree}
-use Rattle.mg_link.specs.Numbers.{as_count, as_integer, count_of}
-use Rattle.mg_server.specs.Files.{AreChunks, Bucket, IsChunk, IsWhole, file_of, files_space, has_value, number_at}
+use Rattle.mg_link.specs.Numbers.{as_count, as_integer, count_of, number_at}
+use Rattle.mg_server.specs.Files.{AreChunks, Bucket, IsChunk, IsWhole, file_of, files_space, has_value}
 use Rattle.mg_server.specs.Filter.{meets}
 use Rattle.mg_server.specs.State.{State}
 use Rattle.mg_server.specs.Step.{documents_of}

@@ -14,7 +14,8 @@ use Rattle.mg_bson.specs.Find.{as_int32, get}
 use Rattle.mg_bson.specs.Tree.{Fields, Tree, int32}
 use Rattle.mg_server.specs.Commands.{Asked, Told, asked, asks_delete, asks_insert, deleted, inserted}
 use Rattle.mg_link.specs.Chunks.{chunked, chunks_behind, last_chunk}
-use Rattle.mg_server.specs.Files.{AreChunks, Bucket, File, Spares, by_number, chunks_space, file_of, files_space, has_value, number_at, with_value}
+use Rattle.mg_link.specs.Numbers.{number_at}
+use Rattle.mg_server.specs.Files.{AreChunks, Bucket, File, Spares, by_number, chunks_space, file_of, files_space, has_value, with_value}
 use Rattle.mg_server.specs.Filing.{part, whole_with}
 use Rattle.mg_server.specs.Filter.{Condition, matches, meets}
 use Rattle.mg_server.specs.History.{Step, step_after, told_at}

@@ -7,7 +7,7 @@ use Rattle.mg_link.specs.Namespace.{Space}
 use Rattle.mg_link.specs.Chunks.{chunked}
 use Rattle.mg_server.specs.Filter.{Condition, matches, meets}
 use Rattle.mg_server.specs.State.{State, is_space}
-use Rattle.mg_link.specs.Numbers.{as_integer}
+use Rattle.mg_link.specs.Numbers.{as_integer, number_at}
 use Rattle.mg_server.specs.Commands.{Asked, asks_create, asks_delete, asks_drop, asks_indexes, asks_insert, asks_kill, asks_more, asks_other, asks_query, asks_update, asks_watch}
 use Rattle.mg_server.specs.Step.{documents_of}
 use Rattle.mg_server.specs.History.{Step, state_of, step_after}
@@ -51,9 +51,6 @@ file_of s b id = record {
 -- ---- whole files
 
 -- a number in 32 bits
-abbrev pub number_at : List ℕ → Fields → Option ℤ
-number_at name d = option_and_then as_int32 (get name d)
-
 pub record IsChunk (n : ℕ) (bytes : List ℕ) (d : Fields) : Type 0 where
   pub number_is : number_at (codes "n") d ≡ Some (pos n)
   pub data_is : get (codes "data") d ≡ Some (binary 0 bytes)
