@@ -1,5 +1,5 @@
 //! Documents as trees that own their parts.
-ghost use Rattle.std.specs.Prelude.{◌≡◌, ◌↔◌, IsTrue, [], ◌∷◌, MatchOption, IfOk, IfErr, OnOk, OnErr, option_map, ⊤};
+ghost use Rattle.std.specs.Prelude.{◌≡◌, ◌↔◌, IsTrue, [], ◌∷◌, MatchOption, IfOk, IfErr, OnOk, OnErr, Some, None, option_map, ⊤};
 ghost use Rattle.mg_bson.specs.Tree.{no_fields, field, no_items, item};
 ghost use Rattle.mg_bson.specs.Find.{get, put, without, fields_length, with_item, with_field, names, items_length, item_at, is_null, as_double, as_string, as_document, as_array, as_binary, as_object_id, as_boolean, as_date_time, as_int32, as_timestamp, as_int64, as_decimal128};
 ghost use Rattle.mg_bson.specs.View.{tree, items_of, place};
@@ -92,7 +92,7 @@ pub struct CodeWithScope {
 ///         _ => 0,
 ///     }
 #[cycle(tree)]
-#[derive(Debug, Drop)]
+#[derive(Debug)]
 pub enum Bson {
     /// A floating point number: the eight bytes of IEEE 754's binary64, the lowest first, as they stand in a document.
     /// `f64::to_le_bytes` gives them.
@@ -138,6 +138,36 @@ pub enum Bson {
     MinKey,
     /// The value above all others.
     MaxKey,
+}
+
+// By hand, so that letting one go is one call.
+impl Drop for Bson {
+    #[cycle(drops)]
+    fn drop(self) {
+        match self {
+            Bson::Double(_) => {}
+            Bson::String(_) => {}
+            Bson::Document(_) => {}
+            Bson::Array(_) => {}
+            Bson::Binary(_) => {}
+            Bson::Undefined => {}
+            Bson::ObjectId(_) => {}
+            Bson::Boolean(_) => {}
+            Bson::DateTime(_) => {}
+            Bson::Null => {}
+            Bson::Regex(_) => {}
+            Bson::DbPointer(_) => {}
+            Bson::Code(_) => {}
+            Bson::Symbol(_) => {}
+            Bson::CodeWithScope(_) => {}
+            Bson::Int32(_) => {}
+            Bson::Timestamp(_) => {}
+            Bson::Int64(_) => {}
+            Bson::Decimal128(_) => {}
+            Bson::MinKey => {}
+            Bson::MaxKey => {}
+        }
+    }
 }
 
 // A name and its value.
@@ -285,6 +315,19 @@ impl Bson {
         match self {
             Bson::Document(d) => Some(d),
             _ => None,
+        }
+    }
+
+    /// The document inside. A value of another kind is handed back as the error.
+    ///
+    ///     let Ok(document) = value.into_document() else { .. };
+    pub fn into_document(self) -> Result<Document, Bson>
+        ensures ok { IfOk result (λ d. as_document (tree self) ≡ Some d) }
+        ensures err { IfErr result (λ v. (v ≡ self) × (as_document (tree self) ≡ None)) }
+    {
+        match self {
+            Bson::Document(document) => Ok(document),
+            other => Err(other),
         }
     }
 

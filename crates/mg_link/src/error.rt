@@ -77,7 +77,7 @@ pub enum ErrorKind {
 }
 
 /// A refusal by the server.
-#[derive(Debug, Drop)]
+#[derive(Drop)]
 pub struct CommandError {
     /// The code, 0 where the reply has none.
     pub code: i32,
@@ -88,7 +88,7 @@ pub struct CommandError {
 }
 
 /// A write that the server did not do, or did not make safe.
-#[derive(Debug, Drop)]
+#[derive(Drop)]
 pub struct WriteFailure {
     /// The code of the failure.
     pub code: i32,
@@ -97,7 +97,7 @@ pub struct WriteFailure {
 }
 
 /// One document of an insert that was not written.
-#[derive(Debug, Drop)]
+#[derive(Drop)]
 pub struct IndexedFailure {
     /// The number of the document in its command, from 0.
     pub index: u32,
@@ -135,7 +135,7 @@ pub enum Malformed {
 }
 
 /// Which argument is outside its stated range.
-#[derive(Debug, Drop)]
+#[derive(Drop)]
 pub enum BadArgument {
     /// No collation has this strength.
     CollationStrength(u32),

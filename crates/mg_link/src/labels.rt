@@ -5,7 +5,7 @@ ghost use Rattle.mg_link.specs.Labels.{has_label};
 use std::marker::Model;
 
 /// The labels that a server gave an error, in its order. An empty list takes no memory.
-#[derive(Debug, Drop)]
+#[derive(Drop)]
 pub struct Labels {
     words: Option<Vec<String>>,
 }

@@ -19,7 +19,7 @@ pub enum LinkError {
 /// A call whose reply has not come.
 ///
 /// It holds one number, and is neither copied nor cloned. It is polled on the link that gave it.
-#[derive(Debug, Drop)]
+#[derive(Drop)]
 pub struct Ticket {
     number: u64,
 }
@@ -49,7 +49,7 @@ impl Ticket {
 }
 
 /// What a poll answers.
-#[derive(Debug, Drop)]
+#[derive(Drop)]
 pub enum Polled {
     /// The reply is not there yet. The ticket is given back.
     Pending(Ticket),

@@ -9,7 +9,6 @@ use std::alloc::Global;
 use std::marker::Model;
 
 /// What the caller has seen of a call so far.
-#[derive(Debug)]
 pub enum Seen {
     /// Nothing yet.
     Waiting,

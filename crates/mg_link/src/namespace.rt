@@ -16,7 +16,7 @@ pub struct Namespace {
 }
 
 /// What an aggregate or a watch is aimed at.
-#[derive(Debug, PartialEq, Eq)]
+#[derive(PartialEq, Eq)]
 pub enum OperationTarget {
     /// A whole database.
     Database(String),

@@ -14,7 +14,7 @@ use mg_bson::{RawDocument, RawDocumentBuf};
 use std::marker::Model;
 
 /// How one command is answered.
-#[derive(Debug, Drop)]
+#[derive(Drop)]
 pub struct Scripted {
     /// How many polls answer that the reply pends.
     pub pend: u32,
@@ -23,7 +23,7 @@ pub struct Scripted {
 }
 
 /// What a command is answered in the end.
-#[derive(Debug, Drop)]
+#[derive(Drop)]
 pub enum ScriptedSeen {
     /// These bytes.
     Reply(Vec<u8>),

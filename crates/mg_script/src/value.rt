@@ -185,9 +185,9 @@ pub(crate) fn document_of(
 ) -> Result<Document, ScriptError>
     ensures { Gives (λ d. d) result (document_at place (view value.now)) }
 {
-    match value_of(alloc, value, place)? {
-        Bson::Document(document) => Ok(document),
-        _ => Err(ScriptError::Fault(place)),
+    match value_of(alloc, value, place)?.into_document() {
+        Ok(document) => Ok(document),
+        Err(_) => Err(ScriptError::Fault(place)),
     }
 }
 
