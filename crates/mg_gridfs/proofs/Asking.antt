@@ -14,7 +14,8 @@ use Rattle.mg_ops.specs.Bodies.{awaits_data, find_body, find_size, is_single, is
 use Rattle.mg_ops.specs.Pieces.{only_true}
 use Rattle.mg_ops.specs.Sessions.{end_of}
 use Rattle.mg_gridfs.specs.Buckets.{ClientBucket}
-use Rattle.mg_gridfs.specs.Commands.{SameReading, by_id, found_lines, in_order, listed_lines, of_file, reading_options}
+use Rattle.mg_chunks.specs.Filters.{of_file}
+use Rattle.mg_gridfs.specs.Commands.{SameReading, by_id, found_lines, in_order, listed_lines, reading_options}
 
 -- the lines of a find, by how what is read is shown
 abbrev with_concern : Space → Fields → FindOptions → Shown → List Line

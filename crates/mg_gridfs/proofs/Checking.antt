@@ -15,7 +15,8 @@ use Rattle.mg_link.specs.declared.error.Malformed.{Malformed}
 use Rattle.mg_options.specs.Fields.{Line}
 use Rattle.mg_ops.specs.Failing.{FailsBy}
 use Rattle.mg_ops.specs.Writes.{WriteFails}
-use Rattle.mg_records.specs.Readings.{Breaks, FailsToRead, recorded}
+use Rattle.mg_chunks.specs.Broken.{Breaks}
+use Rattle.mg_records.specs.Readings.{FailsToRead, recorded}
 use Rattle.mg_records.specs.Specifications.{index_of}
 use Rattle.mg_cursor.specs.Client.{client_ticket}
 use Rattle.mg_cursor.specs.Documents.{DocumentCursor}

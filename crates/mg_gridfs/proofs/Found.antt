@@ -3,7 +3,7 @@ use Rattle.std.proofs.Common.{◌≡◌, ◌⊎◌, ◌+◌, ◌*◌, ◌/◌, �
 use Rattle.std.specs.Prelude.{if◌then◌else◌}
 use Rattle.std.proofs.lemmas.Bool.{ne_eqb}
 use Rattle.mg_bson.specs.Raw.{fields}
-use Rattle.mg_bson.specs.Tree.{Fields, Items, Tree, item}
+use Rattle.mg_bson.specs.Tree.{Fields, Items, Tree}
 use Rattle.mg_link.specs.Exec.{Runs, Sending}
 use Rattle.mg_link.specs.Link.{Awaited, LogTold}
 use Rattle.mg_link.specs.declared.action.Step.{Step}
@@ -20,14 +20,14 @@ use Rattle.mg_ops.specs.declared.cursor_reply.GetMoreResult.{GetMoreResult}
 use Rattle.mg_ops.proofs.Reading.{items_read}
 use Rattle.mg_cursor.specs.View.{told_by}
 use Rattle.mg_cursor.proofs.Hearing.{no_room, other_kind, unread_not_io}
-use Rattle.mg_records.specs.FileRecords.{FileRecord, chunk_count, chunk_count_of, counted, file_record_of}
-use Rattle.mg_records.specs.Readings.{Breaks}
+use Rattle.mg_chunks.specs.Sizes.{chunk_count, chunk_count_of, counted}
+use Rattle.mg_records.specs.FileRecords.{FileRecord, file_record_of}
+use Rattle.mg_chunks.specs.Broken.{Breaks, broken}
 use Rattle.mg_gridfs.specs.Buckets.{ClientBucket, SameBucket, bucket_of}
 use Rattle.mg_gridfs.specs.Commands.{CannotSend, IsNewRequest, IsRequest, found_lines, listed_lines}
-use Rattle.mg_gridfs.specs.Downloads.{broken}
 use Rattle.mg_gridfs.specs.DownloadView.{IsBeginning, KeepsAim, KeepsWanted, bucket_in, finding_of, looking_of}
 use Rattle.mg_gridfs.specs.Findings as finding
-use Rattle.mg_gridfs.specs.Findings.{BreaksFirst, BreaksRecord, ClientFinding, GivesFirst, IsFirstOf, IsListing, IsSoundFinding, Looking, ReadsRecord, SoundIn, finds, lists, starts}
+use Rattle.mg_gridfs.specs.Findings.{BreaksFirst, BreaksRecord, ClientFinding, GivesFirst, IsListing, IsSoundFinding, Looking, ReadsRecord, SoundIn, finds, lists, starts}
 use Rattle.mg_gridfs.specs.declared.download.GridFsDownloadStream.{GridFsDownloadStream}
 use Rattle.mg_gridfs.specs.declared.open_download.OpenDownloadStream.{OpenDownloadStream}
 use Rattle.mg_gridfs.specs.declared.open_download.Opening.{Opening}
@@ -36,22 +36,6 @@ use Rattle.mg_gridfs.specs.declared.open_download.Opening.TheVariants as opening
 -- ---- the first record of a batch
 
 module _ {X : Type 0} (seen : X → Option FileRecord) where
-  pub first_gives : (r : Result X Error) (o : Option Tree) (t : Tree) → o ≡ Some t → IfOk r (λ x. (more : Items) → GivesFirst (item t more) (seen x)) → IfOk r (λ x. (batch : Items) → IsFirstOf o batch → GivesFirst batch (seen x))
-  first_gives (Ok x) o t is h = λ batch at. let p = subst (λ (y : Option Tree). IsFirstOf y batch) is at in subst (λ (b : Items). GivesFirst b (seen x)) (sym p.1) (h p.0)
-  first_gives (Err e) o t is h = tt
-
-  pub first_breaks : (r : Result X Error) (o : Option Tree) (t : Tree) → o ≡ Some t → IfErr r (λ e. (more : Items) → FailsBy (BreaksFirst (item t more)) e) → IfErr r (λ e. (batch : Items) → IsFirstOf o batch → FailsBy (BreaksFirst batch) e)
-  first_breaks (Ok x) o t is h = tt
-  first_breaks (Err e) o t is h = λ batch at. let p = subst (λ (y : Option Tree). IsFirstOf y batch) is at in subst (λ (b : Items). FailsBy (BreaksFirst b) e) (sym p.1) (h p.0)
-
-  pub left_gives : (r : Result X Error) (o : Option Tree) (batch : Items) → IsFirstOf o batch → IfOk r (λ x. (b : Items) → IsFirstOf o b → GivesFirst b (seen x)) → IfOk r (λ x. GivesFirst batch (seen x))
-  left_gives (Ok x) o batch at h = h batch at
-  left_gives (Err e) o batch at h = tt
-
-  pub left_breaks : (r : Result X Error) (o : Option Tree) (batch : Items) → IsFirstOf o batch → IfErr r (λ e. (b : Items) → IsFirstOf o b → FailsBy (BreaksFirst b) e) → IfErr r (λ e. FailsBy (BreaksFirst batch) e)
-  left_breaks (Ok x) o batch at h = tt
-  left_breaks (Err e) o batch at h = h batch at
-
   -- the batch is that of the reply
   pub said_gives : (r : Result X Error) (reply : Fields) (batch : Items) → batch_at reply ≡ Ok batch → IfOk r (λ x. GivesFirst batch (seen x)) → IfOk r (λ x. (said : Cursor) → cursor_of reply ≡ Ok said → GivesFirst said.batch (seen x))
   said_gives (Ok x) reply batch there h = λ said says. let same : batch ≡ said.batch = same_ok batch said.batch (sym there ∙ items_read reply said says) in subst (λ (b : Items). GivesFirst b (seen x)) same h

@@ -16,7 +16,7 @@ use Rattle.mg_server.proofs.Readers.{reader_kept}
 use Rattle.mg_cursor.specs.Client as client
 use Rattle.mg_cursor.specs.Client.{ClientCursor, HasNext, client_ticket}
 use Rattle.mg_cursor.specs.Reading.{in_reply, reader_in}
-use Rattle.mg_records.specs.FileRecords.{chunk_count_of}
+use Rattle.mg_chunks.specs.Sizes.{chunk_count_of}
 use Rattle.mg_gridfs.specs.Downloads as downloads
 use Rattle.mg_gridfs.specs.Downloads.{ClientDownload, Doing, IsSoundDownload, SoundBy, download_ticket, ended, ended_at, idle, reads, spoiled}
 use Rattle.mg_gridfs.specs.DownloadLaws.{DownloadsGoOn}

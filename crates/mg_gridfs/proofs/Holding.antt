@@ -29,7 +29,8 @@ use Rattle.mg_records.specs.FileRecords.{FileRecord, file_record_of}
 use Rattle.mg_ops.specs.Naming.{IsNamed}
 use Rattle.mg_ops.proofs.AskingMore.{asks_to_delete}
 use Rattle.mg_gridfs.specs.Buckets.{ClientBucket, IsAt}
-use Rattle.mg_gridfs.specs.Commands.{deletion_lines, of_file, record_document}
+use Rattle.mg_chunks.specs.Filters.{of_file}
+use Rattle.mg_gridfs.specs.Commands.{deletion_lines, record_document}
 use Rattle.mg_gridfs.specs.Laws.{HasPart, IsSettled, RemovesAlone}
 use Rattle.mg_gridfs.specs.Storing.{HasStored, KnowsAhead, KnowsBy, KnowsPhase, KnowsUpload}
 use Rattle.mg_gridfs.specs.Uploads.{Aim, ClientUpload, Doing, Ending, IsBetween, Phase, SoundBy, begins, busy, checks, close, closed, ends, fills, fresh_upload, idle, inserts, lands, lasts, record_of, records, removes, rests, ticket_by, undoes, upload_ticket}

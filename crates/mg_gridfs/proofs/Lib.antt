@@ -10,7 +10,6 @@ pub mod Caused
 pub mod Answered
 pub mod Counting
 pub mod Unsent
-pub mod Buffering
 pub mod Filling
 pub mod Turning
 pub mod Calling
@@ -21,9 +20,7 @@ pub mod Checking
 pub mod Stepping
 pub mod Asking
 pub mod Found
-pub mod Judged
 pub mod Hands
-pub mod Ordered
 pub mod Fetches
 pub mod Received
 pub mod Downloading

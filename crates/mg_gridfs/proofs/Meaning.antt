@@ -23,7 +23,8 @@ use Rattle.mg_ops.proofs.Asking.{asks_to_insert}
 use Rattle.mg_ops.proofs.AskingMore.{asks_for_indexes, asks_to_create, asks_to_delete, asks_to_index}
 use Rattle.mg_ops.proofs.Replying.{tells_of_delete, tells_of_insert}
 use Rattle.mg_gridfs.specs.Buckets.{ClientBucket, IsAt}
-use Rattle.mg_gridfs.specs.Commands.{any_lines, chunk_document, chunk_documents, chunks_lines, creation_lines, deletion_lines, index_lines, insert_options, listing_lines, of_file, record_lines}
+use Rattle.mg_chunks.specs.Filters.{of_file}
+use Rattle.mg_gridfs.specs.Commands.{any_lines, chunk_document, chunk_documents, chunks_lines, creation_lines, deletion_lines, index_lines, insert_options, listing_lines, record_lines}
 use Rattle.mg_gridfs.specs.Indexes.{keys_of, space_in}
 use Rattle.mg_gridfs.specs.Uploads.{Aim, Ending, record_of}
 use Rattle.mg_gridfs.specs.declared.indexes.Place.{Place}

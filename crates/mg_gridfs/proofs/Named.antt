@@ -24,7 +24,8 @@ use Rattle.mg_cursor.specs.declared.results.AdvanceResult.TheVariants as result
 use Rattle.mg_cursor.proofs.Advancing.{takes_cursor}
 use Rattle.mg_cursor.proofs.Sought.{ended_cursor, kept_cursor}
 use Rattle.mg_gridfs.specs.Buckets.{ClientBucket}
-use Rattle.mg_gridfs.specs.Commands.{IsRequest, any_lines, chunks_lines, creation_lines, deletion_lines, index_lines, insert_options, of_file, record_lines}
+use Rattle.mg_chunks.specs.Filters.{of_file}
+use Rattle.mg_gridfs.specs.Commands.{IsRequest, any_lines, chunks_lines, creation_lines, deletion_lines, index_lines, insert_options, record_lines}
 use Rattle.mg_gridfs.specs.Indexes.{keys_of, space_in}
 use Rattle.mg_gridfs.specs.declared.indexes.Place.{Place}
 use Rattle.mg_gridfs.proofs.Downloading.{IsNoFailure, next_named}

@@ -15,10 +15,9 @@ use Rattle.mg_options.specs.Fields.{Line, fields_in}
 use Rattle.mg_ops.specs.Failing.{FailsBy}
 use Rattle.mg_cursor.specs.Causes.{TellsNoCursor}
 use Rattle.mg_records.specs.FileRecords.{FileRecord}
-use Rattle.mg_records.specs.Readings.{Breaks}
+use Rattle.mg_chunks.specs.Broken.{Breaks, broken}
 use Rattle.mg_gridfs.specs.Buckets.{ClientBucket}
 use Rattle.mg_gridfs.specs.Commands.{CannotSend, IsNewRequest, IsRequest, found_lines, listed_lines}
-use Rattle.mg_gridfs.specs.Downloads.{broken}
 use Rattle.mg_gridfs.specs.Findings as finding
 use Rattle.mg_gridfs.specs.Findings.{BeginsFind, BreaksRecord, ClientFinding, FindsOn, HearsList, HearsRecord, IsSoundFinding, ListsOn, Looking, Opened, Opens, OpensFile, ReadsRecord, SoundIn, fails, finds, lists}
 use Rattle.mg_gridfs.specs.ReadCauses as causes

@@ -33,9 +33,11 @@ use Rattle.mg_cursor.specs.Reading.{batch_documents}
 use Rattle.mg_cursor.proofs.Batching.{documents_read}
 use Rattle.mg_records.specs.FileRecords.{FileRecord}
 use Rattle.mg_gridfs.specs.Buckets.{ClientBucket}
-use Rattle.mg_gridfs.specs.Commands.{by_id, found_lines, in_order, listed_lines, of_file}
+use Rattle.mg_chunks.specs.Filters.{of_file}
+use Rattle.mg_gridfs.specs.Commands.{by_id, found_lines, in_order, listed_lines}
 use Rattle.mg_gridfs.specs.Downloaded.{AfterOpening, IsPlainAt, KnowsChunks, KnowsDownload, KnowsOpening, KnowsRecord, LookingKnown, OpeningKnows, StandsBehind, chunks_query, cursor_owner, looking_owner, opened_owner, record_query}
-use Rattle.mg_gridfs.specs.Downloads.{broken, empty_download, new_download}
+use Rattle.mg_chunks.specs.Broken.{broken}
+use Rattle.mg_gridfs.specs.Downloads.{empty_download, new_download}
 use Rattle.mg_gridfs.specs.Findings as finding
 use Rattle.mg_gridfs.specs.Findings.{BeginsFind, ClientFinding, FindsOn, GivesFirst, HearsList, HearsRecord, IsSoundFinding, ListsOn, Looking, Opened, Opens, OpensFile, ReadsRecord, SoundIn, broke, fails, finds, is_found, lists, none_found, opened, opens, starts, waits}
 use Rattle.mg_gridfs.proofs.Fronts.{front_known, front_opened, nobody_onward}

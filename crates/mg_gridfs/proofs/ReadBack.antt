@@ -27,9 +27,11 @@ use Rattle.mg_server.proofs.Owners.{same_some, state_one}
 use Rattle.mg_link.proofs.Places.{get_within}
 use Rattle.mg_cursor.specs.Client.{ClientCursor}
 use Rattle.mg_cursor.specs.Reading.{in_reply, reader_in}
-use Rattle.mg_records.specs.FileRecords.{FileRecord, Numbers, chunk_count_of, chunk_length_of, file_fields, file_numbers, file_record_of, small_count, with_chunks}
+use Rattle.mg_chunks.specs.Sizes.{chunk_count_of, chunk_length_of}
+use Rattle.mg_records.specs.FileRecords.{FileRecord, Numbers, file_fields, file_numbers, file_record_of, small_count, with_chunks}
 use Rattle.mg_records.specs.Readings.{any_value, needed, optional}
-use Rattle.mg_gridfs.specs.Downloads.{ClientDownload, Doing, and_then, data_of, ended, idle, judged, missing_chunk, needed_as, numbered_as, of_subtype_0, reads, sized_as, spoiled, wrong_size}
+use Rattle.mg_chunks.specs.Chunks.{and_then, data_of, judged, missing_chunk, needed_as, numbered_as, of_subtype_0, sized_as, wrong_size}
+use Rattle.mg_gridfs.specs.Downloads.{ClientDownload, Doing, ended, idle, reads, sizes_of, spoiled}
 use Rattle.mg_gridfs.specs.Downloaded.{AreReceived, HasAll, HasNone, IsFront, KnowsBy, KnowsChunks, KnowsRecord, chunks_query, record_query}
 use Rattle.mg_gridfs.specs.DownloadLaws.{DownloadReads, DownloadReadsFile, DownloadReadsUntil, ReadsFront}
 use Rattle.mg_gridfs.proofs.Fronts.{front_known, front_opened}
@@ -235,7 +237,7 @@ sized_is n b c (Ok expected) h = by_length (length b == expected) h
     by_length false e = absurd cc
 sized_is n b c (Err m) h = absurd cc
 
-numbered_is : (f : FileRecord) (n : ℕ) (b c : List ℕ) → numbered_as f n (pos n) b ≡ Ok c → b ≡ c
+numbered_is : (f : FileRecord) (n : ℕ) (b c : List ℕ) → numbered_as (sizes_of f) n (pos n) b ≡ Ok c → b ≡ c
 numbered_is f n b c h = by_number_of (int_eq (pos n) (pos n)) h
   where
     by_number_of : (t : Bool) → (if t then sized_as n b (chunk_length_of f.length f.chunk_size n) else Err (missing_chunk n)) ≡ Ok c → b ≡ c
@@ -243,11 +245,11 @@ numbered_is f n b c h = by_number_of (int_eq (pos n) (pos n)) h
     by_number_of false e = absurd cc
 
 -- a chunk that was received holds the bytes that stand there
-chunk_is : (f : FileRecord) (n : ℕ) (b c : List ℕ) (d : Fields) → IsChunk n b d → judged f n d ≡ Ok c → b ≡ c
+chunk_is : (f : FileRecord) (n : ℕ) (b c : List ℕ) (d : Fields) → IsChunk n b d → judged (sizes_of f) n d ≡ Ok c → b ≡ c
 chunk_is f n b c d is h =
     let holds_it : data_of d ≡ Some b = ap (λ (o : Option Tree). option_and_then of_subtype_0 (option_and_then as_binary o)) is.data_is in
     numbered_is f n b c
-    (sym (ap (λ o. and_then (needed_as malformed.BadChunk o) (λ number. and_then (needed_as malformed.BadChunk (data_of d)) (numbered_as f n number))) is.number_is ∙ ap (λ o. and_then (needed_as malformed.BadChunk o) (numbered_as f n (pos n))) holds_it) ∙ h)
+    (sym (ap (λ o. and_then (needed_as malformed.BadChunk o) (λ number. and_then (needed_as malformed.BadChunk (data_of d)) (numbered_as (sizes_of f) n number))) is.number_is ∙ ap (λ o. and_then (needed_as malformed.BadChunk o) (numbered_as (sizes_of f) n (pos n))) holds_it) ∙ h)
 
 record IsFirst (n : ℕ) (bs cs : List (List ℕ)) (gs : List Fields) : Type 0 where
   rest : List (List ℕ)

@@ -21,7 +21,8 @@ use Rattle.mg_cursor.proofs.Caused.{next_caused}
 use Rattle.mg_cursor.proofs.Keeping.{sound_in_any, sound_next}
 use Rattle.mg_cursor.proofs.SeekCaused.{fails_grow, fails_rested, heard_before, heard_grow, last_before, last_grow, last_of, passes_grow, since_grows, underway_grow, underway_rest}
 use Rattle.mg_records.specs.FileRecords.{FileRecord}
-use Rattle.mg_gridfs.specs.Downloads.{ClientDownload, Doing, IsSoundDownload, SoundBy, all_judged, idle, reads}
+use Rattle.mg_chunks.specs.Chunks.{all_judged}
+use Rattle.mg_gridfs.specs.Downloads.{ClientDownload, Doing, IsSoundDownload, SoundBy, idle, reads, sizes_of}
 use Rattle.mg_gridfs.specs.ReadCauses as causes
 use Rattle.mg_gridfs.specs.ReadCauses.{HasInOrder, ReadCame, ReadCaused, ReadFails, TakesNext, TookAll, cursor_in}
 use Rattle.mg_gridfs.specs.Reads as steps
@@ -71,7 +72,7 @@ read_fails_before past bytes d m c b e file count o taken passes (causes.not_bui
 read_fails_before past bytes d m c b e file count o taken passes (causes.no_batch replies at are why) = let before = heard_before past bytes c b replies at passes are in causes.no_batch before.replies at before.are why
 read_fails_before past bytes d m c b e file count o taken passes (causes.no_list last_bytes last none) = causes.no_list last_bytes (last_before past bytes c b last_bytes passes last) none
 read_fails_before past bytes d m c b e file count o taken passes (causes.differs last_bytes last batch there n le before at behind took next_one bad) =
-    causes.differs last_bytes (last_before past bytes c b last_bytes passes last) batch there n (omega (arith, le, taken)) (bytes ∷ before) at behind (took_before past bytes d m c b file o taken passes before n at took) next_one (subst (λ (f : FileRecord). all_judged f n batch ≡ Err e) file bad)
+    causes.differs last_bytes (last_before past bytes c b last_bytes passes last) batch there n (omega (arith, le, taken)) (bytes ∷ before) at behind (took_before past bytes d m c b file o taken passes before n at took) next_one (subst (λ (f : FileRecord). all_judged (sizes_of f) n batch ≡ Err e) file bad)
 read_fails_before past bytes d m c b e file count o taken passes (causes.too_many last_bytes last none is) = causes.too_many last_bytes (last_before past bytes c b last_bytes passes last) none is
 read_fails_before past bytes d m c b e file count o taken passes (causes.miscounts n le before at took other is) =
     causes.miscounts n (omega (arith, le, taken)) (bytes ∷ before) at (took_before past bytes d m c b file o taken passes before n at took) (λ same. other (same ∙ sym count)) is
@@ -188,7 +189,7 @@ module _ (old new : Awaited) (log log' : LogTold) (wire : ℤ) (d d' : ClientDow
       same_fails (causes.no_batch replies at are why) = causes.no_batch replies at are why
       same_fails (causes.no_list bytes last none) = causes.no_list bytes last none
       same_fails (causes.differs bytes last batch there_so n le before at behind took next_one bad) =
-          causes.differs bytes last batch there_so n (subst (λ (t : ℕ). t ≤ n) taken le) before at behind (took_from past c e before n at file taken took) next_one (subst (λ (f : FileRecord). all_judged f n batch ≡ Err x) file bad)
+          causes.differs bytes last batch there_so n (subst (λ (t : ℕ). t ≤ n) taken le) before at behind (took_from past c e before n at file taken took) next_one (subst (λ (f : FileRecord). all_judged (sizes_of f) n batch ≡ Err x) file bad)
       same_fails (causes.too_many bytes last none is) = causes.too_many bytes last none is
       same_fails (causes.miscounts n le before at took other is) = causes.miscounts n (subst (λ (t : ℕ). t ≤ n) taken le) before at (took_from past c e before n at file taken took) (λ s. other (s ∙ sym count)) is
 

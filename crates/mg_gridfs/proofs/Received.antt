@@ -15,11 +15,13 @@ use Rattle.mg_link.specs.declared.error.Error.{Error}
 use Rattle.mg_link.specs.declared.error.Malformed.{Malformed}
 use Rattle.mg_link.specs.declared.error.Malformed.TheVariants as malformed
 use Rattle.mg_ops.specs.Cursors.{batch_at}
-use Rattle.mg_records.specs.FileRecords.{FileRecord, chunk_count, chunk_count_of, chunk_length, chunk_length_of, where_counted}
+use Rattle.mg_chunks.specs.Sizes.{chunk_count, chunk_count_of, chunk_length, chunk_length_of, where_counted}
+use Rattle.mg_records.specs.FileRecords.{FileRecord}
 use Rattle.mg_cursor.specs.Batches.{batch_in, documents_of, or_else}
 use Rattle.mg_cursor.specs.Reading.{batch_documents}
 use Rattle.mg_cursor.proofs.Spelled.{inside_document, items_spelled}
-use Rattle.mg_gridfs.specs.Downloads.{all_judged, and_then, data_of, judged, missing_chunk, needed_as, numbered_as, received, sized_as, wrong_size}
+use Rattle.mg_chunks.specs.Chunks.{all_judged, and_then, data_of, judged, missing_chunk, needed_as, numbered_as, sized_as, wrong_size}
+use Rattle.mg_gridfs.specs.Downloads.{received, sizes_of}
 use Rattle.mg_gridfs.specs.Downloaded.{AreReceived}
 use Rattle.mg_gridfs.specs.DownloadView.{HaveBytes, data_in}
 
@@ -49,12 +51,12 @@ pub record BatchIs (f : FileRecord) (n : ℕ) (ts : Items) (chunks : List (List 
   pub these : documents_in ts ≡ Some documents
   pub received : AreReceived f n chunks documents
 
-pub batch_is : (f : FileRecord) (n : ℕ) (ts : Items) (chunks : List (List ℕ)) → all_judged f n ts ≡ Ok chunks → BatchIs f n ts chunks
+pub batch_is : (f : FileRecord) (n : ℕ) (ts : Items) (chunks : List (List ℕ)) → all_judged (sizes_of f) n ts ≡ Ok chunks → BatchIs f n ts chunks
 batch_is f n no_items chunks h = record { documents = []; these = refl; received = subst (λ (cs : List (List ℕ)). AreReceived f n cs []) (ap chunks_in h) tt }
 batch_is f n (item t ts) chunks h =
-    let a = went_on (needed_as malformed.BadItem (as_document t)) (λ d. and_then (judged f n d) (λ bytes. and_then (all_judged f (suc n) ts) (λ more. Ok (bytes ∷ more)))) chunks h in
-    let b = went_on (judged f n a.value) (λ bytes. and_then (all_judged f (suc n) ts) (λ more. Ok (bytes ∷ more))) chunks a.behind in
-    let c = went_on (all_judged f (suc n) ts) (λ more. Ok (b.value ∷ more)) chunks b.behind in
+    let a = went_on (needed_as malformed.BadItem (as_document t)) (λ d. and_then (judged (sizes_of f) n d) (λ bytes. and_then (all_judged (sizes_of f) (suc n) ts) (λ more. Ok (bytes ∷ more)))) chunks h in
+    let b = went_on (judged (sizes_of f) n a.value) (λ bytes. and_then (all_judged (sizes_of f) (suc n) ts) (λ more. Ok (bytes ∷ more))) chunks a.behind in
+    let c = went_on (all_judged (sizes_of f) (suc n) ts) (λ more. Ok (b.value ∷ more)) chunks b.behind in
     let rest = batch_is f (suc n) ts c.value c.first in
     record {
       documents = a.value ∷ rest.documents;
@@ -121,10 +123,10 @@ counted_ok (Ok count) long expected h = record { count = count; says = refl; sam
     same_ok x y e = cc
 counted_ok (Err m) long expected h = absurd cc
 
-pub is_judged : (f : FileRecord) (n : ℕ) (d : Fields) (c : List ℕ) → judged f n d ≡ Ok c → IsJudged f n d c
+pub is_judged : (f : FileRecord) (n : ℕ) (d : Fields) (c : List ℕ) → judged (sizes_of f) n d ≡ Ok c → IsJudged f n d c
 is_judged f n d c h =
-    let a = went_on (needed_as malformed.BadChunk (number_at (codes "n") d)) (λ number. and_then (needed_as malformed.BadChunk (data_of d)) (numbered_as f n number)) c h in
-    let b = went_on (needed_as malformed.BadChunk (data_of d)) (numbered_as f n a.value) c a.behind in
+    let a = went_on (needed_as malformed.BadChunk (number_at (codes "n") d)) (λ number. and_then (needed_as malformed.BadChunk (data_of d)) (numbered_as (sizes_of f) n number)) c h in
+    let b = went_on (needed_as malformed.BadChunk (data_of d)) (numbered_as (sizes_of f) n a.value) c a.behind in
     let s = sized_ok n b.value (chunk_length_of f.length f.chunk_size n) c (if_ok (int_eq a.value (pos n)) (sized_as n b.value (chunk_length_of f.length f.chunk_size n)) (missing_chunk n) c b.behind) in
     let k = counted_ok (chunk_count_of f.length f.chunk_size) (chunk_length f.length f.chunk_size n) s.expected s.says in
     record {
@@ -208,7 +210,7 @@ pub record BatchHolds (reply : List ℕ) (chunks : List (List ℕ)) : Type 0 whe
   pub there : documents_of reply ≡ Some documents
   pub hold : HoldChunks documents chunks
 
-pub batch_holds : (f : FileRecord) (n : ℕ) (reply array : List ℕ) (chunks : List (List ℕ)) → IsDocument array → batch_in reply ≡ Some array → all_judged f n (items array) ≡ Ok chunks → BatchHolds reply chunks
+pub batch_holds : (f : FileRecord) (n : ℕ) (reply array : List ℕ) (chunks : List (List ℕ)) → IsDocument array → batch_in reply ≡ Some array → all_judged (sizes_of f) n (items array) ≡ Ok chunks → BatchHolds reply chunks
 unfolding documents_of
 batch_holds f n reply array chunks is there in_order =
     let b = batch_is f n (items array) chunks in_order in
@@ -220,11 +222,11 @@ batch_holds f n reply array chunks is there in_order =
     }
 
 -- no chunk is in no item, and only there
-pub none_judged : (f : FileRecord) (n : ℕ) (ts : Items) (chunks : List (List ℕ)) → all_judged f n ts ≡ Ok chunks → length chunks ≡ 0 → ts ≡ no_items
+pub none_judged : (f : FileRecord) (n : ℕ) (ts : Items) (chunks : List (List ℕ)) → all_judged (sizes_of f) n ts ≡ Ok chunks → length chunks ≡ 0 → ts ≡ no_items
 none_judged f n no_items chunks h none = refl
 none_judged f n (item t ts) chunks h none =
-    let a = went_on (needed_as malformed.BadItem (as_document t)) (λ d. and_then (judged f n d) (λ bytes. and_then (all_judged f (suc n) ts) (λ more. Ok (bytes ∷ more)))) chunks h in
-    let b = went_on (judged f n a.value) (λ bytes. and_then (all_judged f (suc n) ts) (λ more. Ok (bytes ∷ more))) chunks a.behind in
-    let c = went_on (all_judged f (suc n) ts) (λ more. Ok (b.value ∷ more)) chunks b.behind in
+    let a = went_on (needed_as malformed.BadItem (as_document t)) (λ d. and_then (judged (sizes_of f) n d) (λ bytes. and_then (all_judged (sizes_of f) (suc n) ts) (λ more. Ok (bytes ∷ more)))) chunks h in
+    let b = went_on (judged (sizes_of f) n a.value) (λ bytes. and_then (all_judged (sizes_of f) (suc n) ts) (λ more. Ok (bytes ∷ more))) chunks a.behind in
+    let c = went_on (all_judged (sizes_of f) (suc n) ts) (λ more. Ok (b.value ∷ more)) chunks b.behind in
     let long : suc (length c.value) ≡ length chunks = ap (λ (r : Result (List (List ℕ)) Error). length (chunks_in r)) c.behind in
     absurd (omega arith)

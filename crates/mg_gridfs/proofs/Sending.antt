@@ -21,7 +21,8 @@ use Rattle.mg_ops.specs.Pieces.{one_of}
 use Rattle.mg_ops.specs.Plain.{plain_delete, plain_find, plain_index, plain_indexes, plain_insert}
 use Rattle.mg_ops.specs.Sessions.{end_of}
 use Rattle.mg_gridfs.specs.Buckets.{ClientBucket}
-use Rattle.mg_gridfs.specs.Commands.{any_lines, any_options, creation_lines, deletion_lines, index_lines, insertion, listing_lines, of_file}
+use Rattle.mg_chunks.specs.Filters.{of_file}
+use Rattle.mg_gridfs.specs.Commands.{any_lines, any_options, creation_lines, deletion_lines, index_lines, insertion, listing_lines}
 use Rattle.mg_gridfs.specs.Indexes.{keys_of, space_in}
 use Rattle.mg_gridfs.specs.declared.indexes.Place.{Place}
 use Rattle.mg_gridfs.proofs.Asking.{reads_same}

@@ -5,7 +5,8 @@ use Rattle.std.specs.List.{concat}
 use Rattle.std.proofs.lemmas.Nat.{mod_below}
 use Rattle.mg_link.specs.Chunks.{chunked}
 use Rattle.mg_server.proofs.Chunking.{chunked_full, chunked_none, chunked_short}
-use Rattle.mg_records.specs.FileRecords.{FileRecord, chunk_count, chunk_length}
+use Rattle.mg_chunks.specs.Sizes.{chunk_count, chunk_length}
+use Rattle.mg_records.specs.FileRecords.{FileRecord}
 use Rattle.mg_gridfs.specs.DownloadLaws.{AllReceived, AreSized, CutsAsSized}
 use Rattle.mg_gridfs.specs.Downloads.{received}
 use Rattle.mg_gridfs.proofs.Counting.{full_one, short_one}

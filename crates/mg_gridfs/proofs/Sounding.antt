@@ -17,7 +17,8 @@ use Rattle.mg_cursor.specs.Polling.{Hears, PollsNext, ReadsReply}
 use Rattle.mg_cursor.specs.declared.polls.NextPoll.{NextPoll}
 use Rattle.mg_cursor.specs.declared.polls.NextPoll.TheVariants as next
 use Rattle.mg_cursor.proofs.Keeping.{sound_next}
-use Rattle.mg_records.specs.FileRecords.{FileRecord, chunk_count_of}
+use Rattle.mg_chunks.specs.Sizes.{chunk_count_of}
+use Rattle.mg_records.specs.FileRecords.{FileRecord}
 use Rattle.mg_gridfs.specs.Downloads.{ClientDownload, Doing, HasSizes, IsAtRest, IsBetween, IsFree, IsSoundDownload, IsWaiting, RestsBy, SoundBy, ended, idle, most_empty, reads, received, spoiled, spoiled_at}
 use Rattle.mg_gridfs.specs.Reads as read_steps
 use Rattle.mg_gridfs.specs.Reads.{Concludes, EndsFetch, Fetched, Fetches, Fills, FillsFront, HandsOut, IsOver, IsWithin, Reads, ReadsNone, ReadsNothing, TakesOne, enough, fails, no_more, none_missing, not_taken, over, pends, waits, with_chunks}

@@ -1,6 +1,7 @@
 -- What the steps of an upload keep of its link, and how they make a poll.
-use Rattle.std.proofs.Common.{◌≡◌, ◌≢◌, ◌<◌, ◌≤◌, ◌+◌, ℕ, zero, suc, ℤ, true, false, List, [], ◌∷◌, length, nat_le, nat_lt, Option, Some, None, OnErr, Result, Ok, Err, refl, sym, ap, ◌∙◌, subst, inl, inr, arith}
+use Rattle.std.proofs.Common.{◌≡◌, ◌≢◌, ◌<◌, ◌≤◌, ◌+◌, ℕ, zero, suc, ℤ, Bool, true, false, List, [], ◌∷◌, length, nat_le, nat_lt, Option, Some, None, OnErr, Result, Ok, Err, refl, sym, ap, ◌∙◌, subst, inl, inr, arith}
 use Rattle.std.proofs.lemmas.Bool.Decides.{nat_tests}
+use Rattle.std.specs.Prelude.{if◌then◌else◌}
 use Rattle.mg_link.specs.Causes.{Rose}
 use Rattle.mg_link.specs.Exec.{Sending, ticket_at}
 use Rattle.mg_link.specs.Link.{Awaited, LogTold}
@@ -12,7 +13,8 @@ use Rattle.mg_link.specs.declared.error.ErrorKind.{ErrorKind}
 use Rattle.mg_link.specs.declared.error.ErrorKind.TheVariants as kind
 use Rattle.mg_link.proofs.Moments.{keeps_on, keeps_same}
 use Rattle.mg_cursor.proofs.Hearing.{failing, keeps_to, no_room}
-use Rattle.mg_gridfs.specs.Buffers.{HoldsCut}
+use Rattle.mg_chunks.specs.Buffers.{HoldsCut, size_of}
+use Rattle.mg_chunks.specs.declared.closing.Closing.TheVariants as closing
 use Rattle.mg_gridfs.specs.Calls.{ending_beside}
 use Rattle.mg_gridfs.specs.Checks.{finds}
 use Rattle.mg_gridfs.specs.Commands.{any_lines}
@@ -22,7 +24,6 @@ use Rattle.mg_gridfs.specs.Turns.{BacksOn, BeginsOn, TurnsOn, back_ticket, step_
 use Rattle.mg_gridfs.specs.Uploads.{ClientUpload, Flight, Phase, begins, checks, ends, error_behind, fills, inserts, lands, lasts, phase_ticket, records, removes, rests, undoes}
 use Rattle.mg_gridfs.specs.UploadView.{HasBuffer, back_phase, back_stopped, phase_of, stopped_by}
 use Rattle.mg_gridfs.specs.declared.aim.Aim.{Aim}
-use Rattle.mg_gridfs.specs.declared.buffer.Buffer.{Buffer}
 use Rattle.mg_gridfs.specs.declared.stage.Back.{Back}
 use Rattle.mg_gridfs.specs.declared.stage.Stage.{Stage}
 use Rattle.mg_gridfs.specs.declared.stage.Turn.{Turn}
@@ -313,6 +314,15 @@ pub none_by : (bs : List ℕ) → nat_lt 0 (length bs) ≡ false → bs ≡ []
 none_by [] is = refl
 none_by (b ∷ bs) is = let none = none_at (length (b ∷ bs)) is in absurd (omega (arith, none))
 
+-- the record is stored next only where none are, and a chunk only where some are
+pub record_next : (some : Bool) → (if some then closing.LastChunk else closing.Record) ≡ closing.Record → some ≡ false
+record_next true is = absurd cc
+record_next false is = refl
+
+pub chunk_next : (some : Bool) → (if some then closing.LastChunk else closing.Record) ≡ closing.LastChunk → some ≡ true
+chunk_next true is = refl
+chunk_next false is = absurd cc
+
 pub some_by : (bs : List ℕ) → nat_lt 0 (length bs) ≡ true → bs ≢ []
 some_by bs is none = let bad : true ≡ false = sym is ∙ ap (λ (l : List ℕ). nat_lt 0 (length l)) none in cc
 
@@ -325,5 +335,5 @@ on_err P (Err e) p = p
 pub same_buffer : (u u' : Upload) → u'.buffer ≡ u.buffer → u'.aim ≡ u.aim → HasBuffer u → HasBuffer u'
 same_buffer u u' same aim h = record {
   cut = subst HoldsCut (sym same) h.cut;
-  sized = ap (λ (b : Buffer). b.size) same ∙ h.sized ∙ ap (λ (a : Aim). a.size) (sym aim);
+  sized = ap size_of same ∙ h.sized ∙ ap (λ (a : Aim). a.size) (sym aim);
 }

@@ -25,8 +25,11 @@ use Rattle.mg_cursor.specs.View.{behind_of, current_of}
 use Rattle.mg_cursor.specs.declared.buffer.BatchBuffer.{BatchBuffer}
 use Rattle.mg_cursor.specs.declared.polls.NextPoll.TheVariants as next
 use Rattle.mg_cursor.proofs.Hearing.{failing, keeps_to, no_room, other_kind}
-use Rattle.mg_records.specs.FileRecords.{FileRecord, chunk_length_of}
-use Rattle.mg_gridfs.specs.Downloads.{ClientDownload, Doing, IsSoundDownload, all_judged, and_then, broken, data_of, download_ticket, ended_at, idle, judged, missing_chunk, most_empty, needed_as, numbered_as, reads, sized_as, spoiled_at, wrong_size}
+use Rattle.mg_chunks.specs.Sizes.{chunk_length_of}
+use Rattle.mg_records.specs.FileRecords.{FileRecord}
+use Rattle.mg_chunks.specs.Broken.{broken}
+use Rattle.mg_chunks.specs.Chunks.{all_judged, and_then, data_of, judged, missing_chunk, needed_as, numbered_as, sized_as, wrong_size}
+use Rattle.mg_gridfs.specs.Downloads.{ClientDownload, Doing, IsSoundDownload, download_ticket, ended_at, idle, most_empty, reads, sizes_of, spoiled_at}
 use Rattle.mg_gridfs.specs.DownloadView.{HaveBytes, IsLater, bytes_in, data_in, download_of}
 use Rattle.mg_gridfs.specs.Fetching as fetching
 use Rattle.mg_gridfs.specs.Fetching.{CountsEmpty, Differs, FetchTurns, GivesAs, HasChunks, KeepsBatch, LooksAt, PassesOn, TakesAs, TurnFalls, fetching_of, rank, reading_of, turn_ending, turn_ticket}
@@ -36,7 +39,7 @@ use Rattle.mg_gridfs.specs.declared.download.GridFsDownloadStream.{GridFsDownloa
 use Rattle.mg_gridfs.specs.declared.download.Reading.{Reading}
 use Rattle.mg_gridfs.specs.declared.download.Turn.{Turn}
 use Rattle.mg_gridfs.specs.declared.download.Turn.TheVariants as turn
-use Rattle.mg_gridfs.specs.declared.judging.Place.{Place}
+use Rattle.mg_chunks.specs.declared.judging.Place.{Place}
 use Rattle.mg_gridfs.specs.declared.polls.ReadPoll.{ReadPoll}
 use Rattle.mg_gridfs.specs.declared.polls.ReadPoll.TheVariants as read
 use Rattle.mg_gridfs.proofs.Downloading.{same_cursor, taken_as}
@@ -76,32 +79,32 @@ tested_not_io : {A : Type 0} (t : Bool) (r : Result A Error) (n : ℕ) (e : Erro
 tested_not_io true r n e fine h = fine e h
 tested_not_io false r n e fine h = let is : e ≡ missing_chunk n = cc in missing_not_io n e is
 
-judged_not_io : (f : FileRecord) (n : ℕ) (d : Fields) (e : Error) → judged f n d ≡ Err e → e.kind ≡ kind.Io → ⊥
-judged_not_io f n d e h = by_number (then_err (needed_as malformed.BadChunk (number_at (codes "n") d)) (λ number. and_then (needed_as malformed.BadChunk (data_of d)) (numbered_as f n number)) e h)
+judged_not_io : (f : FileRecord) (n : ℕ) (d : Fields) (e : Error) → judged (sizes_of f) n d ≡ Err e → e.kind ≡ kind.Io → ⊥
+judged_not_io f n d e h = by_number (then_err (needed_as malformed.BadChunk (number_at (codes "n") d)) (λ number. and_then (needed_as malformed.BadChunk (data_of d)) (numbered_as (sizes_of f) n number)) e h)
   where
-    by_data : (z : ℤ) → (needed_as malformed.BadChunk (data_of d) ≡ Err e) ⊎ ((bytes : List ℕ) × (numbered_as f n z bytes ≡ Err e)) → e.kind ≡ kind.Io → ⊥
+    by_data : (z : ℤ) → (needed_as malformed.BadChunk (data_of d) ≡ Err e) ⊎ ((bytes : List ℕ) × (numbered_as (sizes_of f) n z bytes ≡ Err e)) → e.kind ≡ kind.Io → ⊥
     by_data z (inl bad) = needed_not_io malformed.BadChunk (data_of d) e bad
     by_data z (inr there) = tested_not_io (int_eq z (pos n)) (sized_as n there.0 (chunk_length_of f.length f.chunk_size n)) n e (λ x. sized_not_io n there.0 (chunk_length_of f.length f.chunk_size n) x) there.1
 
-    by_number : (needed_as malformed.BadChunk (number_at (codes "n") d) ≡ Err e) ⊎ ((z : ℤ) × (and_then (needed_as malformed.BadChunk (data_of d)) (numbered_as f n z) ≡ Err e)) → e.kind ≡ kind.Io → ⊥
+    by_number : (needed_as malformed.BadChunk (number_at (codes "n") d) ≡ Err e) ⊎ ((z : ℤ) × (and_then (needed_as malformed.BadChunk (data_of d)) (numbered_as (sizes_of f) n z) ≡ Err e)) → e.kind ≡ kind.Io → ⊥
     by_number (inl bad) = needed_not_io malformed.BadChunk (number_at (codes "n") d) e bad
-    by_number (inr there) = by_data there.0 (then_err (needed_as malformed.BadChunk (data_of d)) (numbered_as f n there.0) e there.1)
+    by_number (inr there) = by_data there.0 (then_err (needed_as malformed.BadChunk (data_of d)) (numbered_as (sizes_of f) n there.0) e there.1)
 
-all_not_io : (f : FileRecord) (n : ℕ) (ts : Items) (e : Error) → all_judged f n ts ≡ Err e → e.kind ≡ kind.Io → ⊥
+all_not_io : (f : FileRecord) (n : ℕ) (ts : Items) (e : Error) → all_judged (sizes_of f) n ts ≡ Err e → e.kind ≡ kind.Io → ⊥
 all_not_io f n no_items e h = absurd cc
-all_not_io f n (item t ts) e h = by_item (then_err (needed_as malformed.BadItem (as_document t)) (λ d. and_then (judged f n d) (λ bytes. and_then (all_judged f (suc n) ts) (λ more. Ok (bytes ∷ more)))) e h) (all_not_io f (suc n) ts e)
+all_not_io f n (item t ts) e h = by_item (then_err (needed_as malformed.BadItem (as_document t)) (λ d. and_then (judged (sizes_of f) n d) (λ bytes. and_then (all_judged (sizes_of f) (suc n) ts) (λ more. Ok (bytes ∷ more)))) e h) (all_not_io f (suc n) ts e)
   where
-    by_more : (all_judged f (suc n) ts ≡ Err e → e.kind ≡ kind.Io → ⊥) → (bytes : List ℕ) → (all_judged f (suc n) ts ≡ Err e) ⊎ ((more : List (List ℕ)) × (Ok (bytes ∷ more) ≡ Err e)) → e.kind ≡ kind.Io → ⊥
+    by_more : (all_judged (sizes_of f) (suc n) ts ≡ Err e → e.kind ≡ kind.Io → ⊥) → (bytes : List ℕ) → (all_judged (sizes_of f) (suc n) ts ≡ Err e) ⊎ ((more : List (List ℕ)) × (Ok (bytes ∷ more) ≡ Err e)) → e.kind ≡ kind.Io → ⊥
     by_more rest bytes (inl bad) = rest bad
     by_more rest bytes (inr never) = let bad = never.1 in absurd cc
 
-    by_chunk : (all_judged f (suc n) ts ≡ Err e → e.kind ≡ kind.Io → ⊥) → (d : Fields) → (judged f n d ≡ Err e) ⊎ ((bytes : List ℕ) × (and_then (all_judged f (suc n) ts) (λ more. Ok (bytes ∷ more)) ≡ Err e)) → e.kind ≡ kind.Io → ⊥
+    by_chunk : (all_judged (sizes_of f) (suc n) ts ≡ Err e → e.kind ≡ kind.Io → ⊥) → (d : Fields) → (judged (sizes_of f) n d ≡ Err e) ⊎ ((bytes : List ℕ) × (and_then (all_judged (sizes_of f) (suc n) ts) (λ more. Ok (bytes ∷ more)) ≡ Err e)) → e.kind ≡ kind.Io → ⊥
     by_chunk rest d (inl bad) = judged_not_io f n d e bad
-    by_chunk rest d (inr there) = by_more rest there.0 (then_err (all_judged f (suc n) ts) (λ more. Ok (there.0 ∷ more)) e there.1)
+    by_chunk rest d (inr there) = by_more rest there.0 (then_err (all_judged (sizes_of f) (suc n) ts) (λ more. Ok (there.0 ∷ more)) e there.1)
 
-    by_item : (needed_as malformed.BadItem (as_document t) ≡ Err e) ⊎ ((d : Fields) × (and_then (judged f n d) (λ bytes. and_then (all_judged f (suc n) ts) (λ more. Ok (bytes ∷ more))) ≡ Err e)) → (all_judged f (suc n) ts ≡ Err e → e.kind ≡ kind.Io → ⊥) → e.kind ≡ kind.Io → ⊥
+    by_item : (needed_as malformed.BadItem (as_document t) ≡ Err e) ⊎ ((d : Fields) × (and_then (judged (sizes_of f) n d) (λ bytes. and_then (all_judged (sizes_of f) (suc n) ts) (λ more. Ok (bytes ∷ more))) ≡ Err e)) → (all_judged (sizes_of f) (suc n) ts ≡ Err e → e.kind ≡ kind.Io → ⊥) → e.kind ≡ kind.Io → ⊥
     by_item (inl bad) rest = needed_not_io malformed.BadItem (as_document t) e bad
-    by_item (inr there) rest = by_chunk rest there.0 (then_err (judged f n there.0) (λ bytes. and_then (all_judged f (suc n) ts) (λ more. Ok (bytes ∷ more))) e there.1)
+    by_item (inr there) rest = by_chunk rest there.0 (then_err (judged (sizes_of f) n there.0) (λ bytes. and_then (all_judged (sizes_of f) (suc n) ts) (λ more. Ok (bytes ∷ more))) e there.1)
 
 spoils_not_io : (empty : ℕ) (reply : List ℕ) (d : ClientDownload) (e : Error) → (e ≡ plain kind.OutOfMemory) ⊎ SpoilsBatch empty reply d e → e.kind ≡ kind.Io → ⊥
 spoils_not_io empty reply d e (inl memory) = no_room e memory

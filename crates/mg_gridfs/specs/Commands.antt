@@ -17,6 +17,7 @@ use Rattle.mg_ops.specs.Bodies.{create_body, create_indexes_body, delete_body, f
 use Rattle.mg_ops.specs.Failing.{CannotBeSent, CannotInsert}
 use Rattle.mg_ops.specs.Given.{◌⇢◌⨾◌}
 use Rattle.mg_ops.specs.Plain.{plain_delete, plain_find, plain_index, plain_indexes, plain_insert}
+use Rattle.mg_chunks.specs.Filters.{of_file}
 use Rattle.mg_gridfs.specs.Buckets.{ClientBucket}
 use Rattle.mg_gridfs.specs.Indexes.{keys_of, space_in}
 use Rattle.mg_gridfs.specs.declared.indexes.Place.{Place}
@@ -57,10 +58,6 @@ chunks_lines b documents = insertion b b.chunks documents
 -- inserts the record of a file
 abbrev pub record_lines : ClientBucket → Fields → List Line
 record_lines b record_of = insertion b b.files (record_of ∷ [])
-
--- the chunks of a file
-abbrev pub of_file : Tree → Fields
-of_file id = "files_id" ⇒ document ("$eq" ⇒ id ⨾ empty) ⨾ empty
 
 -- removes all chunks of a file, and nothing else
 abbrev pub deletion_lines : ClientBucket → Tree → List Line

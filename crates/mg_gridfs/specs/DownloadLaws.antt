@@ -9,7 +9,8 @@ use Rattle.mg_link.specs.Link.{Awaited}
 use Rattle.mg_link.specs.Log.{Call}
 use Rattle.mg_server.specs.Owner.{Onward}
 use Rattle.mg_server.specs.Standing.{Stands}
-use Rattle.mg_records.specs.FileRecords.{FileRecord, chunk_count, chunk_count_of, chunk_length, file_record_of}
+use Rattle.mg_chunks.specs.Sizes.{chunk_count, chunk_count_of, chunk_length}
+use Rattle.mg_records.specs.FileRecords.{FileRecord, file_record_of}
 use Rattle.mg_gridfs.specs.Downloads.{ClientDownload, download_ticket, ended, received, spoiled}
 use Rattle.mg_gridfs.specs.Downloaded.{AreReceived, KnowsDownload, doing_owner}
 

@@ -11,7 +11,8 @@ use Rattle.mg_cursor.specs.View.{behind_of, current_of}
 use Rattle.mg_cursor.specs.declared.buffer.BatchBuffer.{BatchBuffer}
 use Rattle.mg_records.specs.FileRecords.{file_record}
 use Rattle.mg_gridfs.specs.Buckets.{ClientBucket, SameBucket, bucket_of}
-use Rattle.mg_gridfs.specs.Downloads.{ClientDownload, Doing, IsBetween, data_of, download_ticket, ended, idle, reads, spoiled}
+use Rattle.mg_chunks.specs.Chunks.{data_of}
+use Rattle.mg_gridfs.specs.Downloads.{ClientDownload, Doing, IsBetween, download_ticket, ended, idle, reads, spoiled}
 use Rattle.mg_gridfs.specs.Findings.{ClientFinding, IsSoundFinding, Looking, Opened, fails, finding_ticket, finds, lists, opens, starts, waits}
 use Rattle.mg_gridfs.specs.declared.download.GridFsDownloadStream.{GridFsDownloadStream}
 use Rattle.mg_gridfs.specs.declared.download.State.{State}

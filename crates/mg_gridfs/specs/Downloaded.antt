@@ -15,9 +15,11 @@ use Rattle.mg_server.specs.Standing.{Stands}
 use Rattle.mg_ops.specs.Naming.{IsNamed}
 use Rattle.mg_cursor.specs.Client.{ClientCursor}
 use Rattle.mg_cursor.specs.Reading.{fetching_by, reader_in}
-use Rattle.mg_records.specs.FileRecords.{FileRecord, chunk_count_of, file_record_of}
+use Rattle.mg_chunks.specs.Sizes.{chunk_count_of}
+use Rattle.mg_records.specs.FileRecords.{FileRecord, file_record_of}
 use Rattle.mg_gridfs.specs.Buckets.{ClientBucket, IsAt}
-use Rattle.mg_gridfs.specs.Downloads.{ClientDownload, Doing, ended, idle, judged, reads, spoiled}
+use Rattle.mg_chunks.specs.Chunks.{judged}
+use Rattle.mg_gridfs.specs.Downloads.{ClientDownload, Doing, ended, idle, reads, sizes_of, spoiled}
 use Rattle.mg_gridfs.specs.Findings.{ClientFinding, Looking, Opened, fails, finds, lists, opens, starts, waits}
 use Rattle.mg_gridfs.specs.declared.polls.ReadPoll.{ReadPoll}
 use Rattle.mg_gridfs.specs.declared.polls.ReadPoll.TheVariants as read
@@ -57,7 +59,7 @@ pub record KnowsRecord (calls : List Call) (at : Bucket) (id : Tree) (f : FileRe
 -- documents that were received are chunks of the file, numbered from one on, and hold these bytes
 abbrev pub AreReceived : FileRecord → ℕ → List (List ℕ) → List Fields → Type 0
 AreReceived f n [] [] = Unit {0}
-AreReceived f n (c ∷ cs) (d ∷ ds) = (judged f n d ≡ Ok c) × AreReceived f (suc n) cs ds
+AreReceived f n (c ∷ cs) (d ∷ ds) = (judged (sizes_of f) n d ≡ Ok c) × AreReceived f (suc n) cs ds
 AreReceived f n [] (d ∷ ds) = ⊥
 AreReceived f n (c ∷ cs) [] = ⊥
 

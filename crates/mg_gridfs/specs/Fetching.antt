@@ -13,14 +13,15 @@ use Rattle.mg_link.specs.declared.error.ErrorKind.TheVariants as kind
 use Rattle.mg_ops.specs.Cursors.{batch_at}
 use Rattle.mg_cursor.specs.Batches.{NoBatchIn, batch_in, documents_of}
 use Rattle.mg_cursor.specs.Client.{ClientCursor, HasNext, client_ticket}
-use Rattle.mg_gridfs.specs.Downloads.{ClientDownload, Doing, all_judged, ended_at, idle, missing_chunk, most_empty, reads, spoiled_at}
+use Rattle.mg_chunks.specs.Chunks.{all_judged, missing_chunk}
+use Rattle.mg_gridfs.specs.Downloads.{ClientDownload, Doing, ended_at, idle, most_empty, reads, sizes_of, spoiled_at}
 use Rattle.mg_gridfs.specs.DownloadView.{HaveBytes, data_in, download_of}
 use Rattle.mg_gridfs.specs.Reads.{EndsFetch, Fetches, FillsFront, HandsOut, Reads, SpoilsBatch, TakesBatch, TakesOne, enough, fails, waits}
 use Rattle.mg_gridfs.specs.declared.download.GridFsDownloadStream.{GridFsDownloadStream}
 use Rattle.mg_gridfs.specs.declared.download.Reading.{Reading}
 use Rattle.mg_gridfs.specs.declared.download.Turn.{Turn}
 use Rattle.mg_gridfs.specs.declared.download.Turn.TheVariants as turn
-use Rattle.mg_gridfs.specs.declared.judging.Place.{Place}
+use Rattle.mg_chunks.specs.declared.judging.Place.{Place}
 use Rattle.mg_gridfs.specs.declared.polls.ReadPoll.{ReadPoll}
 use Rattle.mg_gridfs.specs.declared.polls.ReadPoll.TheVariants as read
 
@@ -98,7 +99,7 @@ pub record LooksAt (d : ClientDownload) (missing : ℕ) (reply : List ℕ) (p : 
   pub bytes_are : batch_in reply ≡ Some array
   pub values_are : batch_at (fields reply) ≡ Ok (items array)
   pub chunks : List (List ℕ)
-  pub in_order : all_judged d.file d.taken (items array) ≡ Ok chunks
+  pub in_order : all_judged (sizes_of d.file) d.taken (items array) ≡ Ok chunks
   pub taken : p.taken ≡ d.taken + length chunks
   pub few : p.taken ≤ 2 ^ 31
   pub missing_is : p.missing ≡ missing - length (concat chunks)
@@ -106,7 +107,7 @@ pub record LooksAt (d : ClientDownload) (missing : ℕ) (reply : List ℕ) (p : 
 -- there is no batch, or one of its chunks differs from the record
 pub data Differs (d : ClientDownload) (reply : List ℕ) (e : Error) : Type 0 where
   no_batch : NoBatchIn (fields reply) e → Differs d reply e
-  differs : (batch : Items) → batch_at (fields reply) ≡ Ok batch → all_judged d.file d.taken batch ≡ Err e → Differs d reply e
+  differs : (batch : Items) → batch_at (fields reply) ≡ Ok batch → all_judged (sizes_of d.file) d.taken batch ≡ Err e → Differs d reply e
 
 -- its items are documents, each of which holds bytes, and one is there
 pub record HasChunks (reply : List ℕ) : Type 0 where

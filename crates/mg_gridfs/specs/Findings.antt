@@ -20,11 +20,12 @@ use Rattle.mg_ops.specs.Cursors.{BreaksIn, Cursor, OpensWith, cursor_of}
 use Rattle.mg_ops.specs.Failing.{FailsBy}
 use Rattle.mg_ops.specs.declared.cursor_reply.CursorSpecification.{CursorSpecification}
 use Rattle.mg_cursor.specs.Client.{new_client}
-use Rattle.mg_records.specs.FileRecords.{FileRecord, chunk_count_of, file_record_of}
-use Rattle.mg_records.specs.Readings.{Breaks}
+use Rattle.mg_chunks.specs.Sizes.{chunk_count_of}
+use Rattle.mg_records.specs.FileRecords.{FileRecord, file_record_of}
+use Rattle.mg_chunks.specs.Broken.{Breaks, broken}
 use Rattle.mg_gridfs.specs.Buckets.{ClientBucket, SameBucket}
 use Rattle.mg_gridfs.specs.Commands.{CannotSend, IsNewRequest, IsRequest, found_lines, listed_lines}
-use Rattle.mg_gridfs.specs.Downloads.{ClientDownload, broken, empty_download, new_download}
+use Rattle.mg_gridfs.specs.Downloads.{ClientDownload, empty_download, new_download}
 
 -- how far it has come
 pub data Looking : Type 0 where
@@ -85,11 +86,6 @@ pub data GivesFirst (batch : Items) (found : Option FileRecord) : Type 0 where
 pub data BreaksFirst (batch : Items) (e : Error) : Type 0 where
   no_document : (t : Tree) (ts : Items) → batch ≡ item t ts → as_document t ≡ None → e ≡ broken malformed.BadItem → BreaksFirst batch e
   no_record : (t : Tree) (ts : Items) (d : Fields) → batch ≡ item t ts → as_document t ≡ Some d → Breaks (file_record_of d) e → BreaksFirst batch e
-
--- an item stands first in a batch, or the batch has none
-abbrev pub IsFirstOf : Option Tree → Items → Type 0
-IsFirstOf None batch = batch ≡ no_items
-IsFirstOf (Some t) batch = (more : Items) × (batch ≡ item t more)
 
 -- what the reply to the find of a record gives
 pub record ReadsRecord (reply : List ℕ) (found : Option FileRecord) : Type 0 where

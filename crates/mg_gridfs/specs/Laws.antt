@@ -21,7 +21,8 @@ use Rattle.mg_server.specs.State.{State, is_space}
 use Rattle.mg_server.specs.Step.{May, documents_of}
 use Rattle.mg_options.specs.Fields.{fields_in}
 use Rattle.mg_ops.specs.Naming.{IsNamed}
-use Rattle.mg_records.specs.FileRecords.{chunk_count, chunk_length, file_record_of}
+use Rattle.mg_chunks.specs.Sizes.{chunk_count, chunk_length}
+use Rattle.mg_records.specs.FileRecords.{file_record_of}
 use Rattle.mg_gridfs.specs.Buckets.{ClientBucket, IsAt, IsSize}
 use Rattle.mg_gridfs.specs.Commands.{deletion_lines, record_document}
 use Rattle.mg_gridfs.specs.Storing.{HasStored, KnowsUpload}

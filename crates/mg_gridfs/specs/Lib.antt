@@ -2,7 +2,6 @@ pub mod Buckets
 pub mod Commands
 pub mod Indexes
 pub mod Checks
-pub mod Buffers
 pub mod Uploads
 pub mod Steps
 pub mod Calls
@@ -14,7 +13,6 @@ pub mod Downloads
 pub mod Findings
 pub mod Reads
 pub mod DownloadView
-pub mod Judging
 pub mod Fetching
 pub mod ReadCauses
 pub mod Downloaded

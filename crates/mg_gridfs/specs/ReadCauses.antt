@@ -16,11 +16,13 @@ use Rattle.mg_cursor.specs.Causes.{HeardMore, IsUnderway, MoreFails, TellsNoCurs
 use Rattle.mg_cursor.specs.Client.{ClientCursor, at_rest, behind_reply, holds}
 use Rattle.mg_cursor.specs.Polling.{CannotAsk}
 use Rattle.mg_cursor.specs.Seeking.{AreHeard, LastBatch}
-use Rattle.mg_records.specs.FileRecords.{FileRecord, chunk_count_of}
-use Rattle.mg_records.specs.Readings.{Breaks}
+use Rattle.mg_chunks.specs.Sizes.{chunk_count_of}
+use Rattle.mg_records.specs.FileRecords.{FileRecord}
+use Rattle.mg_chunks.specs.Broken.{Breaks}
 use Rattle.mg_gridfs.specs.Buckets.{ClientBucket}
 use Rattle.mg_gridfs.specs.Commands.{CannotSend, found_lines, listed_lines}
-use Rattle.mg_gridfs.specs.Downloads.{ClientDownload, Doing, all_judged, ended, idle, missing_chunk, reads, spoiled}
+use Rattle.mg_chunks.specs.Chunks.{all_judged, missing_chunk}
+use Rattle.mg_gridfs.specs.Downloads.{ClientDownload, Doing, ended, idle, reads, sizes_of, spoiled}
 use Rattle.mg_gridfs.specs.Findings.{BreaksRecord, ClientFinding, IsNotFound, Looking, Opened, ReadsRecord, fails, finds, lists, opens, starts, waits}
 use Rattle.mg_gridfs.specs.declared.polls.ReadPoll.{ReadPoll}
 use Rattle.mg_gridfs.specs.declared.polls.ReadPoll.TheVariants as read
@@ -90,7 +92,7 @@ pub record HasInOrder (f : FileRecord) (n : ℕ) (bytes : List ℕ) : Type 0 whe
   pub is_array : IsDocument array
   pub bytes_are : batch_in bytes ≡ Some array
   pub chunks : List (List ℕ)
-  pub in_order : all_judged f n (items array) ≡ Ok chunks
+  pub in_order : all_judged (sizes_of f) n (items array) ≡ Ok chunks
 
 -- The call took these batches one behind another, whose chunks are numbered from one number on, so that another is the next; and this cursor stands behind them.
 abbrev pub TookAll : Past → FileRecord → ClientCursor → List (List ℕ) → (from next : ℕ) → ClientCursor → Type 0
@@ -106,7 +108,7 @@ pub data ReadFails (past : Past) (d : ClientDownload) (c : ClientCursor) (e : Er
   no_list : (bytes : List ℕ) → LastBatch past c bytes → NoBatchIn (fields bytes) e → ReadFails past d c e
   -- in the batch that was received last a chunk differs first so from the record, which is to have the next number behind all that came before
   differs : (bytes : List ℕ) → LastBatch past c bytes → (batch : Items) → batch_at (fields bytes) ≡ Ok batch → (n : ℕ) → d.taken ≤ n → (before : List (List ℕ)) (at behind : ClientCursor) → TookAll past d.file c before d.taken n at → TakesNext past at bytes behind
-      → all_judged d.file n batch ≡ Err e → ReadFails past d c e
+      → all_judged (sizes_of d.file) n batch ≡ Err e → ReadFails past d c e
   -- too many empty replies in a row, the last of which is this one
   too_many : (bytes : List ℕ) → LastBatch past c bytes → batch_at (fields bytes) ≡ Ok no_items → e ≡ plain kind.EmptyBatches → ReadFails past d c e
   -- the cursor has ended, and so many chunks came, which are not as many as the record says

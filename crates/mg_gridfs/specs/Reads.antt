@@ -13,7 +13,8 @@ use Rattle.mg_cursor.specs.Batches.{NoBatchIn, batch_in}
 use Rattle.mg_cursor.specs.Client.{ClientCursor, HasNext}
 use Rattle.mg_cursor.specs.Polling.{PollsNext}
 use Rattle.mg_cursor.specs.declared.polls.NextPoll.TheVariants as next
-use Rattle.mg_gridfs.specs.Downloads.{ClientDownload, Doing, all_judged, ended, ended_at, idle, missing_chunk, most_empty, reads, spoiled, spoiled_at}
+use Rattle.mg_chunks.specs.Chunks.{all_judged, missing_chunk}
+use Rattle.mg_gridfs.specs.Downloads.{ClientDownload, Doing, ended, ended_at, idle, most_empty, reads, sizes_of, spoiled, spoiled_at}
 use Rattle.mg_gridfs.specs.declared.polls.ReadPoll.{ReadPoll}
 use Rattle.mg_gridfs.specs.declared.polls.ReadPoll.TheVariants as read
 
@@ -35,7 +36,7 @@ pub record TakesBatch (cursor : ClientCursor) (missing empty : ℕ) (reply : Lis
   pub is_array : IsDocument array
   pub bytes_are : batch_in reply ≡ Some array
   pub chunks : List (List ℕ)
-  pub in_order : all_judged d.file d.taken (items array) ≡ Ok chunks
+  pub in_order : all_judged (sizes_of d.file) d.taken (items array) ≡ Ok chunks
   -- an empty one is not one too many
   pub few : chunks ≡ [] → suc empty < most_empty
   pub taken : d' ≡ with_chunks chunks cursor missing empty d
@@ -46,7 +47,7 @@ pub record TakesBatch (cursor : ClientCursor) (missing empty : ℕ) (reply : Lis
 pub data SpoilsBatch (empty : ℕ) (reply : List ℕ) (d : ClientDownload) (e : Error) : Type 0 where
   no_batch : NoBatchIn (fields reply) e → SpoilsBatch empty reply d e
   -- one of its chunks differs from the record
-  differs : (batch : Items) → batch_at (fields reply) ≡ Ok batch → all_judged d.file d.taken batch ≡ Err e → SpoilsBatch empty reply d e
+  differs : (batch : Items) → batch_at (fields reply) ≡ Ok batch → all_judged (sizes_of d.file) d.taken batch ≡ Err e → SpoilsBatch empty reply d e
   -- too many empty replies in a row, the last of which is this one
   too_many : batch_at (fields reply) ≡ Ok no_items → most_empty ≤ suc empty → e ≡ plain kind.EmptyBatches → SpoilsBatch empty reply d e
 

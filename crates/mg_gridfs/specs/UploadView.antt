@@ -6,7 +6,7 @@ use Rattle.mg_link.specs.Exec.{Sending}
 use Rattle.mg_link.specs.declared.action.Step.{Step}
 use Rattle.mg_link.specs.declared.action.Step.TheVariants as step
 use Rattle.mg_gridfs.specs.Buckets.{ClientBucket, ClientOpening, Destination, bucket_of}
-use Rattle.mg_gridfs.specs.Buffers.{HoldsCut, held_of}
+use Rattle.mg_chunks.specs.Buffers.{HoldsCut, held_of, size_of}
 use Rattle.mg_gridfs.specs.Checks as check
 use Rattle.mg_gridfs.specs.Checks.{CheckTurned, ClientCheck, HearsCreation, HearsFind, HearsIndex, HearsListing, creates, finds, indexes, lists, reads}
 use Rattle.mg_gridfs.specs.Steps.{Stepped, done, failed, waits}
@@ -118,7 +118,7 @@ upload_of s = upload_with s.upload (doing_of s.state)
 -- its buffer holds chunks of its size
 pub record HasBuffer (u : Upload) : Type 0 where
   pub cut : HoldsCut u.buffer
-  pub sized : u.buffer.size ≡ u.aim.size
+  pub sized : size_of u.buffer ≡ u.aim.size
 
 -- What is on its way is its own, and each call that goes on waits for a reply.
 pub record IsUpload (s : GridFsUploadStream) : Type 0 where

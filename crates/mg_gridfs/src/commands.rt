@@ -8,11 +8,13 @@ ghost use Rattle.mg_link.specs.declared.error.ErrorKind.TheVariants as kinds;
 ghost use Rattle.mg_ops.specs.Bodies.{find_body};
 ghost use Rattle.mg_ops.specs.Failing.{CannotBeSent, FailsBy};
 ghost use Rattle.mg_gridfs.specs.Buckets.{bucket_of};
-ghost use Rattle.mg_gridfs.specs.Commands.{CannotSend, CannotStore, IsEncoded, IsNewRequest, SameReading, any_lines, by_id, chunks_lines, creation_lines, deletion_lines, found_lines, in_order, index_lines, insertion, listed_lines, listing_lines, of_file, reading_options, record_lines};
+ghost use Rattle.mg_chunks.specs.Filters.{of_file};
+ghost use Rattle.mg_gridfs.specs.Commands.{CannotSend, CannotStore, IsEncoded, IsNewRequest, SameReading, any_lines, by_id, chunks_lines, creation_lines, deletion_lines, found_lines, in_order, index_lines, insertion, listed_lines, listing_lines, reading_options, record_lines};
 
 use crate::bucket::GridFsBucket;
 use crate::indexes::Place;
 use mg_bson::{Bson, Document};
+use mg_chunks::of_file;
 use mg_exec::{Exec, Retry};
 use mg_link::{Error, Namespace};
 use mg_ops::{Create, CreateIndexes, Delete, Find, Insert, ListIndexes, Operation, encode};
@@ -134,18 +136,6 @@ pub(crate) fn insert_record(bucket: &GridFsBucket, document: Document) -> Result
     insert(bucket, bucket.files(), documents)
 }
 
-// The filter of all chunks of a file.
-fn of_file(bucket: &GridFsBucket, id: &Bson) -> Result<Document, Error>
-    ensures ok { IfOk result (λ d. d ≡ of_file (tree id.now)) }
-    ensures err { IfErr result (λ e. e ≡ plain kinds.OutOfMemory) }
-{
-    let mut equal = Document::new(bucket.allocator());
-    equal.append("$eq", id.clone()?)?;
-    let mut filter = Document::new(bucket.allocator());
-    filter.append("files_id", Bson::Document(equal))?;
-    Ok(filter)
-}
-
 // Removes all chunks of a file.
 pub(crate) fn delete_chunks(bucket: &GridFsBucket, id: &Bson, wire: i32) -> Result<Exec, Error>
     ensures ok { IfOk result (λ s. IsNewRequest false (deletion_lines (bucket_of bucket.now) (tree id.now)) s) }
@@ -155,7 +145,7 @@ pub(crate) fn delete_chunks(bucket: &GridFsBucket, id: &Bson, wire: i32) -> Resu
     copy_given(&bucket.write_concern, &mut options.write_concern)?;
     let delete = Delete {
         ns: bucket.chunks().clone()?,
-        filter: of_file(bucket, id)?,
+        filter: of_file(bucket.allocator(), id)?,
         many: true,
         options,
     };
@@ -232,7 +222,7 @@ pub(crate) fn find_chunks(bucket: &GridFsBucket, id: &Bson, wire: i32) -> Result
     ensures ok { IfOk result (λ s. IsNewRequest true (listed_lines (bucket_of bucket.now) (tree id.now)) s) }
     ensures err { IfErr result (λ e. FailsBy (CannotSend (listed_lines (bucket_of bucket.now) (tree id.now))) e) }
 {
-    let filter = of_file(bucket, id)?;
+    let filter = of_file(bucket.allocator(), id)?;
     let order = in_order(bucket)?;
     let plain = reading_options(bucket)?;
     let options = plain.sort(order);

@@ -8,7 +8,8 @@ ghost use Rattle.mg_link.specs.declared.error.ErrorKind.TheVariants as kinds;
 ghost use Rattle.mg_cursor.specs.Batches.{BreaksBatch, documents_of};
 ghost use Rattle.mg_cursor.specs.Client.{ClientCursor, HasNext, client_ticket};
 ghost use Rattle.mg_cursor.specs.View.{behind_of, current_of};
-ghost use Rattle.mg_records.specs.FileRecords.{chunk_count_of, file_record};
+ghost use Rattle.mg_chunks.specs.Sizes.{chunk_count_of};
+ghost use Rattle.mg_records.specs.FileRecords.{file_record};
 ghost use Rattle.mg_gridfs.specs.Downloaded.{ReadKnows};
 ghost use Rattle.mg_gridfs.specs.Downloads.{IsAtRest, IsFree, IsSoundDownload, download_ticket, empty_download, idle, most_empty, new_download, reads, spoiled_at};
 ghost use Rattle.mg_gridfs.specs.DownloadView.{HoldsBytes, IsDownload, IsLater, bytes_in, download_of, hand_of};
@@ -17,8 +18,8 @@ ghost use Rattle.mg_gridfs.specs.ReadCauses.{ReadCaused};
 ghost use Rattle.mg_gridfs.specs.Reads.{Fills, FillsFront, IsWithin, LeavesRead, ReadsNothing, read_ending};
 
 use crate::hand::Hand;
-use crate::judging::{Place, judge_all, missing_chunk};
 use crate::polls::ReadPoll;
+use mg_chunks::{FileSizes, Place, has_all_chunks, judge_all, missing_chunk};
 use mg_cursor::{BatchBuffer, NextPoll, RawBatch, RawBatchCursor};
 use mg_link::{Error, ErrorKind, Link, Step, plain};
 use mg_records::FilesCollectionDocument;
@@ -399,7 +400,11 @@ impl GridFsDownloadStream {
                     taken: self.taken,
                     missing,
                 };
-                judge_all(&self.file, place, &chunks)
+                let sizes = FileSizes {
+                    length: self.file.length,
+                    chunk_size: self.file.chunk_size_bytes,
+                };
+                judge_all(&sizes, place, &chunks)
             }
             Err(error) => Err(error),
         }
@@ -473,7 +478,7 @@ impl GridFsDownloadStream {
         ensures ends { (cursor : ClientCursor) → (HasNext cursor → ⊥) → PassesOn cursor (download_of self.old) count (download_of self.new) result }
         ensures holds { HoldsBytes self.new.hand }
     {
-        if is_same(self.taken, self.count) {
+        if has_all_chunks(self.taken, self.count) {
             self.enter(State::Ended);
             return ReadPoll::Read(count);
         }

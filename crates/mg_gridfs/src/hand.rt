@@ -3,8 +3,8 @@ ghost use Rattle.std.specs.Prelude.{◌≡◌, ◌↔◌, ◌++◌, ◌≤◌, �
 ghost use Rattle.mg_cursor.specs.View.{behind_of, current_of};
 ghost use Rattle.mg_gridfs.specs.DownloadView.{AreLater, HoldsBytes, IsLater, IsPassed, bytes_in, bytes_of, data_in, front_in, hand_of, rest_of};
 
-use crate::judging::data_of;
 use mg_bson::RawDocument;
+use mg_chunks::data_of;
 use mg_cursor::BatchBuffer;
 use std::alloc::{AllocError, Global};
 use std::collections::VecDeque;

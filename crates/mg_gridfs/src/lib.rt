@@ -8,7 +8,6 @@
 
 mod aim;
 mod bucket;
-mod buffer;
 mod check;
 mod chunks;
 mod commands;
@@ -16,7 +15,6 @@ mod download;
 mod flight;
 mod hand;
 mod indexes;
-mod judging;
 pub mod laws;
 mod open_download;
 mod open_upload;

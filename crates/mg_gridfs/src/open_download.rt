@@ -1,8 +1,7 @@
 //! Downloads that are to be opened.
 ghost use Rattle.std.specs.Prelude.{◌≡◌, IfErr, IfOk, None, Ok, List, ℕ, option_map, true};
 ghost use Rattle.mg_bson.specs.Raw.{fields, items};
-ghost use Rattle.mg_bson.specs.RawView.{value};
-ghost use Rattle.mg_bson.specs.Tree.{Items, item};
+ghost use Rattle.mg_bson.specs.Tree.{Items};
 ghost use Rattle.mg_bson.specs.View.{tree};
 ghost use Rattle.mg_link.specs.Acts.{EndsAtOnce, FailsByFault, IsOut, Pended, Tickets, ticket_after};
 ghost use Rattle.mg_link.specs.Exec.{ticket_of};
@@ -11,24 +10,26 @@ ghost use Rattle.mg_link.specs.Link.{Later};
 ghost use Rattle.mg_link.specs.Moment.{LinkKeeps, moment, step_ending};
 ghost use Rattle.mg_ops.specs.Cursors.{BreaksIn, Cursor, Gave, cursor_of};
 ghost use Rattle.mg_ops.specs.Failing.{FailsBy};
-ghost use Rattle.mg_records.specs.FileRecords.{chunk_count_of, file_record};
+ghost use Rattle.mg_chunks.specs.Found.{HasFirst};
+ghost use Rattle.mg_chunks.specs.Sizes.{chunk_count_of};
+ghost use Rattle.mg_records.specs.FileRecords.{file_record};
 ghost use Rattle.mg_gridfs.specs.Buckets.{bucket_of};
 ghost use Rattle.mg_gridfs.specs.Commands.{IsRequest, found_lines};
 ghost use Rattle.mg_gridfs.specs.Downloaded.{OpeningKnows};
 ghost use Rattle.mg_gridfs.specs.Downloads.{download_ticket};
 ghost use Rattle.mg_gridfs.specs.DownloadView.{IsBeginning, IsDownload, IsSoundBehind, KeepsAim, KeepsWanted, download_of, finding_at, finding_of, looking_of, opened_as, ticket_in};
-ghost use Rattle.mg_gridfs.specs.Findings.{BeginsFind, BreaksFirst, BreaksRecord, FindsOn, GivesFirst, HearsRecord, IsFirstOf, IsListed, IsListing, IsNewFinding, IsNotFound, IsSoundFinding, ListsOn, Opens, OpensFile, ReadsRecord, finding_ticket, ticket_by};
+ghost use Rattle.mg_gridfs.specs.Findings.{BeginsFind, BreaksFirst, BreaksRecord, FindsOn, GivesFirst, HearsRecord, IsListed, IsListing, IsNewFinding, IsNotFound, IsSoundFinding, ListsOn, Opens, OpensFile, ReadsRecord, finding_ticket, ticket_by};
 ghost use Rattle.mg_gridfs.specs.ReadCauses.{OpeningCaused};
 
 use crate::bucket::GridFsBucket;
 use crate::check::opened;
 use crate::commands::{find_chunks, find_record};
 use crate::download::GridFsDownloadStream;
-use crate::judging::broken;
-use mg_bson::{Bson, RawArray, RawDocument, RawDocumentBuf, RawValue};
+use mg_bson::{Bson, RawArray, RawDocument, RawDocumentBuf};
+use mg_chunks::{broken, first_document};
 use mg_cursor::{NewCursor, RawBatchCursor};
 use mg_exec::Exec;
-use mg_link::{Action, Error, ErrorKind, GridFsErrorKind, GridFsFileIdentifier, Link, Malformed, Step, plain};
+use mg_link::{Action, Error, ErrorKind, GridFsErrorKind, GridFsFileIdentifier, Link, Step, plain};
 use mg_ops::{GetMoreResult, doc_slices, read_more};
 use mg_records::{FilesCollectionDocument, ReadRaw};
 use std::alloc::Global;
@@ -84,30 +85,19 @@ impl Drop for Wanted {
     }
 }
 
-// An item of a batch as a record.
-fn record_of(alloc: Global, found: &RawValue<'_>) -> Result<Option<FilesCollectionDocument>, Error>
-    ensures ok { IfOk result (λ f. (more : Items) → GivesFirst (item (value found.now) more) (option_map file_record f)) }
-    ensures err { IfErr result (λ e. (more : Items) → FailsBy (BreaksFirst (item (value found.now) more)) e) }
+// The first document of a batch as a record, where the batch has one.
+fn record_of(
+    alloc: Global,
+    first: Option<RawDocument<'_>>,
+) -> Result<Option<FilesCollectionDocument>, Error>
+    ensures ok { IfOk result (λ f. (batch : Items) → HasFirst batch (option_map fields first.entry) → GivesFirst batch (option_map file_record f)) }
+    ensures err { IfErr result (λ e. (batch : Items) → HasFirst batch (option_map fields first.entry) → FailsBy (BreaksFirst batch) e) }
 {
-    match found.as_document() {
+    match first {
         Some(document) => match FilesCollectionDocument::read_raw(alloc, document) {
             Ok(file) => Ok(Some(file)),
             Err(error) => Err(error),
         },
-        None => Err(broken(Malformed::BadItem)),
-    }
-}
-
-// The first item of a batch as a record, if there is one.
-fn first_in(
-    alloc: Global,
-    first: &Option<RawValue<'_>>,
-) -> Result<Option<FilesCollectionDocument>, Error>
-    ensures ok { IfOk result (λ f. (batch : Items) → IsFirstOf (option_map value first.now) batch → GivesFirst batch (option_map file_record f)) }
-    ensures err { IfErr result (λ e. (batch : Items) → IsFirstOf (option_map value first.now) batch → FailsBy (BreaksFirst batch) e) }
-{
-    match first {
-        Some(found) => record_of(alloc, found),
         None => Ok(None),
     }
 }
@@ -117,9 +107,10 @@ fn first_of(alloc: Global, batch: &RawArray<'_>) -> Result<Option<FilesCollectio
     ensures ok { IfOk result (λ f. GivesFirst (items batch.now) (option_map file_record f)) }
     ensures err { IfErr result (λ e. FailsBy (BreaksFirst (items batch.now)) e) }
 {
-    let mut left = batch.iter();
-    let first = left.next();
-    first_in(alloc, &first)
+    match first_document(batch) {
+        Ok(first) => record_of(alloc, first),
+        Err(error) => Err(error),
+    }
 }
 
 // That of the batch of a reply.

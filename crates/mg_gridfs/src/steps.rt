@@ -1,5 +1,5 @@
 //! The steps of an upload: chunks first, and the record last; on the way back its chunks are removed.
-ghost use Rattle.std.specs.Prelude.{◌≡◌, ◌⊎◌, ◌<◌, ◌≤◌, ◌+◌, ◌*◌, ◌^◌, ℕ, List, [], ◌∷◌, drop, false, length, nat_le, nat_lt, take, None, Some, IfErr, IfOk, OnErr, if◌then◌else◌};
+ghost use Rattle.std.specs.Prelude.{◌≡◌, ◌⊎◌, ◌<◌, ◌≤◌, ◌+◌, ◌*◌, ◌^◌, ℕ, List, [], ◌∷◌, drop, false, length, nat_le, take, None, Some, IfErr, IfOk, OnErr, if◌then◌else◌};
 ghost use Rattle.mg_bson.specs.Bytes.{bytes};
 ghost use Rattle.mg_bson.specs.View.{tree};
 ghost use Rattle.mg_link.specs.Acts.{IsOut};
@@ -10,7 +10,8 @@ ghost use Rattle.mg_link.specs.declared.error.ErrorKind.TheVariants as kinds;
 ghost use Rattle.mg_ops.specs.Drawn.{AreLater};
 ghost use Rattle.mg_ops.specs.Failing.{CannotBeSent, FailsBy};
 ghost use Rattle.mg_ops.specs.Limits.{max_documents};
-ghost use Rattle.mg_gridfs.specs.Buffers.{held_of};
+ghost use Rattle.mg_chunks.specs.Buffers.{held_of};
+ghost use Rattle.mg_chunks.specs.Closings.{closing_by};
 ghost use Rattle.mg_gridfs.specs.Calls.{ending_beside, with_bytes};
 ghost use Rattle.mg_gridfs.specs.Commands.{CannotStore, IsNewRequest, chunk_document, record_lines};
 ghost use Rattle.mg_gridfs.specs.Steps.{CannotEnd, CannotFill, FailsToUndo, IsAbortOf, undone_by};
@@ -19,17 +20,16 @@ ghost use Rattle.mg_gridfs.specs.Uploads.{HasBounds, IsShort, IsSoundPhase, chec
 ghost use Rattle.mg_gridfs.specs.UploadView.{HasBuffer, back_phase, back_stopped, check_of, ending_view, phase_of, stopped_by, worker_of};
 
 use crate::aim::Aim;
-use crate::buffer::Buffer;
 use crate::check::{CheckTurn, Checking};
 use crate::chunks::{chunk_document, record_document};
 use crate::commands::{delete_chunks, insert_chunks, insert_record, one};
 use crate::stage::{Back, Ending, Stage, Turn};
 use mg_bson::{DateTime, Document, ObjectId};
+use mg_chunks::{Buffer, Closing, last_number, next_in_close};
 use mg_cursor::is_memory;
 use mg_exec::Exec;
 use mg_link::{Action, Error, ErrorKind, GridFsErrorKind, IdSource, Link, Step, plain};
 use mg_ops::{documents_together, read_deleted, read_inserted};
-use mg_records::last_number;
 use std::alloc::{AllocError, Global};
 
 // An upload without what it is doing.
@@ -437,13 +437,13 @@ impl Upload {
         insert_chunks(&self.aim.bucket, documents)
     }
 
-    // Whether bytes are left, where they fill no chunk.
-    fn has_rest(&self) -> bool
+    // What a close stores next, where the bytes left fill no chunk.
+    fn closing(&self) -> Closing
         requires buffer { HasBuffer self.now }
         requires short { IsShort (worker_of self.now) }
-        ensures { result ≡ nat_lt 0 (length (worker_of self.now).behind) }
+        ensures { result ≡ closing_by (length (worker_of self.now).behind) }
     {
-        self.buffer.rest_len() > 0
+        next_in_close(self.buffer.rest_len())
     }
 
     // What is left is inserted as the last chunk, where something is.
@@ -463,12 +463,12 @@ impl Upload {
             length,
             moment: time,
         };
-        if !self.has_rest() {
-            return Turn::Goes(Stage::End(ending));
-        }
-        match self.last_portion(ids) {
-            Ok(exec) => Turn::Goes(Stage::Last(exec, ending)),
-            Err(error) => self.fail(link, error),
+        match self.closing() {
+            Closing::Record => Turn::Goes(Stage::End(ending)),
+            Closing::LastChunk => match self.last_portion(ids) {
+                Ok(exec) => Turn::Goes(Stage::Last(exec, ending)),
+                Err(error) => self.fail(link, error),
+            },
         }
     }
 

@@ -6,7 +6,7 @@ use Rattle.std.proofs.lemmas.Bool.{cases_eq, eq-eqb, eqb-true, ne_eqb}
 use Rattle.std.proofs.lemmas.Grind.{div_ceil_times}
 use Rattle.std.proofs.Math.Nat.{add-div_left, add-mod_left, div-eq_of_lt, mod-eq_of_lt, zero-div, zero-mod}
 use Rattle.mg_link.specs.Chunks.{chunked, chunks_behind, last_chunk}
-use Rattle.mg_records.specs.FileRecords.{chunk_count, chunk_length}
+use Rattle.mg_chunks.specs.Sizes.{chunk_count, chunk_length}
 
 -- a full chunk more
 count_more : (n size : ℕ) → 0 < size → div_ceil (size + n) size ≡ suc (div_ceil n size)

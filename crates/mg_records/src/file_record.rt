@@ -1,21 +1,19 @@
 //! What the files collection of a bucket holds.
-ghost use Rattle.std.specs.Prelude.{◌≡◌, ◌+◌, ◌<◌, ◌≤◌, ◌%◌, ◌^◌, Ok, IfOk, IfErr, OnOk, OnErr};
+ghost use Rattle.std.specs.Prelude.{◌≡◌, Ok, IfOk, IfErr};
 ghost use Rattle.mg_bson.specs.Raw.{fields};
-ghost use Rattle.mg_link.specs.Errors.{plain};
-ghost use Rattle.mg_link.specs.declared.error.ErrorKind.TheVariants as kinds;
-ghost use Rattle.mg_records.specs.FileRecords.{chunk_count_of, chunk_length_of, file_fields, file_numbers, file_record, numbers};
-ghost use Rattle.mg_records.specs.Readings.{Breaks, Gives};
+ghost use Rattle.mg_chunks.specs.Sizes.{chunk_count_of, chunk_length_of};
+ghost use Rattle.mg_records.specs.FileRecords.{file_fields, file_numbers, file_record, numbers};
+ghost use Rattle.mg_chunks.specs.Broken.{Breaks};
+ghost use Rattle.mg_records.specs.Readings.{Gives};
 
 use crate::copy::{copied_document, copied_text};
 use crate::fault::{Fault, error_of};
 use crate::read_raw::ReadRaw;
 use crate::value::{needed, optional};
 use mg_bson::{Bson, DateTime, Document, RawDocument};
-use mg_link::{Error, ErrorKind, Malformed, plain};
+use mg_chunks::{broken, expected_chunk_length, n_from_vals};
+use mg_link::{Error, Malformed};
 use std::alloc::{AllocError, Global};
-
-/// The greatest number that a chunk may have: the greatest Int32.
-const GREATEST_NUMBER: u32 = 2_147_483_647;
 
 /// The record of a file (GridFS specification, "files collection documents").
 #[derive(Debug, PartialEq, Eq)]
@@ -62,13 +60,7 @@ impl FilesCollectionDocument {
         ensures ok { IfOk result (λ n. chunk_count_of length size ≡ Ok n) }
         ensures err { IfErr result (λ e. Breaks (chunk_count_of length size) e) }
     {
-        if size == 0 {
-            return Err(plain(ErrorKind::InvalidResponse(Malformed::ChunkSizeZero)));
-        }
-        match u32::try_from(length.div_ceil(u64::from(size))) {
-            Ok(n) => Ok(n),
-            Err(_) => Err(plain(ErrorKind::InvalidResponse(Malformed::TooManyChunks))),
-        }
+        n_from_vals(length, size)
     }
 
     /// How many bytes the chunk of this number has, from 0, of so many bytes in chunks of this size: the rest in the last
@@ -77,35 +69,7 @@ impl FilesCollectionDocument {
         ensures ok { IfOk result (λ bytes. chunk_length_of length size n ≡ Ok bytes) }
         ensures err { IfErr result (λ e. Breaks (chunk_length_of length size n) e) }
     {
-        let count = FilesCollectionDocument::n_from_vals(length, size)?;
-        let rest = rest(length, size);
-        if u64::from(n) + 1 == u64::from(count) && rest != 0 {
-            Ok(rest)
-        } else {
-            Ok(size)
-        }
-    }
-}
-
-// How many bytes are left behind full chunks.
-fn rest(length: u64, size: u32) -> u32
-    requires { 0 < size }
-    ensures { result ≡ length % size }
-{
-    (length % u64::from(size)) as u32
-}
-
-/// The last number of so many chunks, whose numbers go up by one from the first. It fails where it passes 2,147,483,647.
-pub fn last_number(first: u32, count: u32) -> Result<u32, Error>
-    requires { 0 < count }
-    ensures ok { IfOk result (λ last. last + 1 ≡ first + count) }
-    ensures fits { OnOk result (first + count ≤ 2 ^ 31) }
-    ensures err { IfErr result (λ e. e ≡ plain kinds.FileTooLarge) }
-    ensures passes { OnErr result (2 ^ 31 < first + count) }
-{
-    match first.checked_add(count - 1) {
-        Some(last) if last <= GREATEST_NUMBER => Ok(last),
-        _ => Err(plain(ErrorKind::FileTooLarge)),
+        expected_chunk_length(length, size, n)
     }
 }
 
@@ -163,7 +127,7 @@ impl ReadRaw for FilesCollectionDocument {
             Err(fault) => return Err(error_of(fault)),
         };
         if found.chunk_size_bytes == 0 {
-            return Err(plain(ErrorKind::InvalidResponse(Malformed::ChunkSizeZero)));
+            return Err(broken(Malformed::ChunkSizeZero));
         }
         Ok(found)
     }

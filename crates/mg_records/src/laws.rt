@@ -2,7 +2,7 @@
 ghost use Rattle.std.specs.Prelude.{◌≡◌, ◌<◌, ◌≤◌, ◌+◌, ◌*◌, ℕ, List, Some, length, slice_get};
 ghost use Rattle.mg_link.specs.Chunks.{chunked};
 ghost use Rattle.mg_link.specs.Words.{AreReadBack};
-ghost use Rattle.mg_records.specs.FileRecords.{chunk_count, chunk_length};
+ghost use Rattle.mg_chunks.specs.Sizes.{chunk_count, chunk_length};
 ghost use Rattle.mg_records.specs.EventWords.{namespace_type_word, namespace_types, operation_word, operations};
 
 /// Each word of the tables is read back as the value that is written so.

@@ -1,21 +1,23 @@
-use Rattle.std.proofs.Common.{◌≡◌, Option, Some, None, MatchOption, option_map, sym, ◌∙◌}
-use Rattle.mg_bson.specs.Raw.{items, items_left}
-use Rattle.mg_bson.specs.RawView.{value}
-use Rattle.mg_bson.specs.Tree.{Items, Tree, item, no_items}
+use Rattle.std.proofs.Common.{option_map, inr}
+use Rattle.std.proofs.lemmas.Result.{IfErr-weaker, IfOk-weaker}
+use Rattle.mg_bson.specs.Raw.{fields, items}
+use Rattle.mg_bson.specs.Tree.{Items}
+use Rattle.mg_link.specs.declared.error.Error.{Error}
+use Rattle.mg_ops.specs.Failing.{FailsBy}
+use Rattle.mg_chunks.specs.Found.{HasFirst}
 use Rattle.mg_records.specs.FileRecords.{file_record}
-use Rattle.mg_gridfs.specs.Findings.{IsFirstOf}
-use Rattle.mg_gridfs.proofs.Found.{left_breaks, left_gives}
+use Rattle.mg_gridfs.specs.Findings.{BreaksFirst, GivesFirst, no_document}
 use Rattle.mg_gridfs.proofs.open_download.first_of.Goals as goal
 
--- what stood first in what is left
-stood_first : {X : Type 0} (seen : X → Tree) (o : Option X) (batch left rest : Items) → left ≡ batch → MatchOption o ((left ≡ no_items) × (rest ≡ no_items)) (λ x. left ≡ item (seen x) rest) → IsFirstOf (option_map seen o) batch
-stood_first seen None batch left rest is h = sym is ∙ h.0
-stood_first seen (Some x) batch left rest is h = (rest, sym is ∙ h)
+pub returns-in-Ok-clause-ok : goal.returns-in-Ok-clause-ok
+returns-in-Ok-clause-ok c =
+    IfOk-weaker c.record_of.result (λ f. (batch : Items) → HasFirst batch (option_map fields c.in-Ok.first) → GivesFirst batch (option_map file_record f)) (λ f. GivesFirst (items c.args.batch.now) (option_map file_record f))
+    (λ f h. h (items c.args.batch.now) c.in-Ok.ensures.ok) c.record_of.ensures.ok
 
-pub returns-clause-ok : goal.returns-clause-ok
-returns-clause-ok c =
-    left_gives (option_map file_record) c.first_in.result (option_map value c.next-first.result) (items c.args.batch.now) (stood_first value c.next-first.result (items c.args.batch.now) (items_left c.iter-left.result) (items_left c.next-first.new.self) c.iter-left.ensures c.next-first.ensures) c.first_in.ensures.ok
+pub returns-in-Ok-clause-err : goal.returns-in-Ok-clause-err
+returns-in-Ok-clause-err c =
+    IfErr-weaker c.record_of.result (λ e. (batch : Items) → HasFirst batch (option_map fields c.in-Ok.first) → FailsBy (BreaksFirst batch) e) (λ e. FailsBy (BreaksFirst (items c.args.batch.now)) e)
+    (λ (e : Error) h. h (items c.args.batch.now) c.in-Ok.ensures.ok) c.record_of.ensures.err
 
-pub returns-clause-err : goal.returns-clause-err
-returns-clause-err c =
-    left_breaks (option_map file_record) c.first_in.result (option_map value c.next-first.result) (items c.args.batch.now) (stood_first value c.next-first.result (items c.args.batch.now) (items_left c.iter-left.result) (items_left c.next-first.new.self) c.iter-left.ensures c.next-first.ensures) c.first_in.ensures.err
+pub returns-in-Err-clause-err : goal.returns-in-Err-clause-err
+returns-in-Err-clause-err c = let other = c.in-Err.ensures.err in inr (no_document other.first other.behind other.is other.no_document other.error)

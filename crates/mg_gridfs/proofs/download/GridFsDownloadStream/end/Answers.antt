@@ -10,17 +10,17 @@ use Rattle.mg_gridfs.proofs.download.GridFsDownloadStream.end.Goals as goal
 
 -- ---- as many chunks came as there are
 
-pub returns-then-is_same-clause-ends : goal.returns-then-is_same-clause-ends
-returns-then-is_same-clause-ends c = λ cursor over.
-    is_whole over (c.is_same.ensures.0 c.if-is_same.true) (ap download_of c.enter.ensures ∙ ap (λ (l : List ℕ). record (download_of c.args.self.now) { ahead = l; doing = ended }) c.requires.empty) refl
+pub returns-then-has_all_chunks-clause-ends : goal.returns-then-has_all_chunks-clause-ends
+returns-then-has_all_chunks-clause-ends c = λ cursor over.
+    is_whole over (c.has_all_chunks.ensures.0 c.if-has_all_chunks.true) (ap download_of c.enter.ensures ∙ ap (λ (l : List ℕ). record (download_of c.args.self.now) { ahead = l; doing = ended }) c.requires.empty) refl
 
-pub returns-then-is_same-clause-holds : goal.returns-then-is_same-clause-holds
-returns-then-is_same-clause-holds c = subst (λ (s : GridFsDownloadStream). HoldsBytes s.hand) (sym c.enter.ensures) c.requires.holds
+pub returns-then-has_all_chunks-clause-holds : goal.returns-then-has_all_chunks-clause-holds
+returns-then-has_all_chunks-clause-holds c = subst (λ (s : GridFsDownloadStream). HoldsBytes s.hand) (sym c.enter.ensures) c.requires.holds
 
 -- ---- or another number of them
 
 pub returns-clause-ends : goal.returns-clause-ends
-returns-clause-ends c = λ cursor over. other_count over (iff_false c.is_same.ensures c.if-is_same.false) c.spoil.ensures.spoiled (ap (λ (e : Error). read.Failed e) c.missing_chunk.ensures)
+returns-clause-ends c = λ cursor over. other_count over (iff_false c.has_all_chunks.ensures c.if-has_all_chunks.false) c.spoil.ensures.spoiled (ap (λ (e : Error). read.Failed e) c.missing_chunk.ensures)
 
 pub returns-clause-holds : goal.returns-clause-holds
 returns-clause-holds c = c.spoil.ensures.holds

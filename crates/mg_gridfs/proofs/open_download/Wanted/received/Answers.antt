@@ -2,7 +2,7 @@ use Rattle.std.proofs.Common.{None, refl, ap}
 use Rattle.mg_link.specs.Moment.{finished, moment}
 use Rattle.mg_link.proofs.Moments.{keeps_same}
 use Rattle.mg_cursor.proofs.Hearing.{failing}
-use Rattle.mg_records.specs.FileRecords.{chunk_count_of}
+use Rattle.mg_chunks.specs.Sizes.{chunk_count_of}
 use Rattle.mg_gridfs.specs.Findings.{fails, too_many}
 use Rattle.mg_gridfs.proofs.Found.{broken_kind_not_io, count_broken}
 use Rattle.mg_gridfs.proofs.open_download.Wanted.received.Goals as goal

@@ -6,13 +6,13 @@ use Rattle.mg_bson.specs.Tree.{Fields}
 use Rattle.mg_ops.specs.InsertCauses.{max_piece}
 use Rattle.mg_ops.specs.Limits.{max_documents}
 use Rattle.mg_ops.proofs.Drawn.{later_same}
-use Rattle.mg_gridfs.specs.Buffers.{held_of}
+use Rattle.mg_chunks.specs.Buffers.{full_of, held_of, rest_of, size_of}
 use Rattle.mg_gridfs.specs.Commands.{chunk_document}
 use Rattle.mg_gridfs.specs.Steps as steps
 use Rattle.mg_gridfs.specs.Steps.{not_encoded}
 use Rattle.mg_gridfs.specs.Uploads.{ClientUpload}
 use Rattle.mg_gridfs.specs.UploadView.{worker_of}
-use Rattle.mg_gridfs.proofs.Buffering.{held_bytes}
+use Rattle.mg_chunks.proofs.Buffering.{held_bytes}
 use Rattle.mg_gridfs.proofs.Filling.{but_none, first_one, portion}
 use Rattle.mg_gridfs.proofs.steps.Upload.begin_chunks.Goals as goal
 
@@ -42,7 +42,7 @@ as_many-count-requires-clause-there g c =
     let full = c.requires.full in
     let sized = c.requires.buffer.sized in
     let short = c.requires.buffer.cut.short in
-    some_full (length u.buffer.full.items) u.buffer.size (length u.buffer.rest.items) (length (held_of u.buffer)) all short (omega (arith, full, sized)) c.full_chunks-held.result held
+    some_full (length (full_of u.buffer)) (size_of u.buffer) (length (rest_of u.buffer)) (length (held_of u.buffer)) all short (omega (arith, full, sized)) c.full_chunks-held.result held
 
 -- ---- it failed
 
@@ -106,11 +106,11 @@ returns-in_err-_last-clause-err g c =
     let u = worker_of c.args.self.now in
     let b = c.args.self.now.buffer in
     let held = c.full_chunks-held.ensures in
-    let sized : b.size ≡ u.aim.size = c.requires.buffer.sized in
-    let all : length u.behind ≡ length b.full.items * u.aim.size + length b.rest.items = held_bytes b c.requires.buffer.cut ∙ ap (λ (n : ℕ). length b.full.items * n + length b.rest.items) sized in
-    let short : length b.rest.items < u.aim.size = subst (λ (n : ℕ). length b.rest.items < n) sized c.requires.buffer.cut.short in
+    let sized : size_of b ≡ u.aim.size = c.requires.buffer.sized in
+    let all : length u.behind ≡ length (full_of b) * u.aim.size + length (rest_of b) = held_bytes b c.requires.buffer.cut ∙ ap (λ (n : ℕ). length (full_of b) * n + length (rest_of b)) sized in
+    let short : length (rest_of b) < u.aim.size = subst (λ (n : ℕ). length (rest_of b) < n) sized c.requires.buffer.cut.short in
     let most : c.full_chunks-held.result * u.aim.size ≤ length u.behind = subst (λ (n : ℕ). n * u.aim.size ≤ length u.behind) (sym held) (omega (arith, all)) in
-    let more : (length b.full.items + 1) * u.aim.size ≡ length b.full.items * u.aim.size + u.aim.size = omega arith in
+    let more : (length (full_of b) + 1) * u.aim.size ≡ length (full_of b) * u.aim.size + u.aim.size = omega arith in
     let below : length u.behind < (c.full_chunks-held.result + 1) * u.aim.size = subst (λ (n : ℕ). length u.behind < (n + 1) * u.aim.size) (sym held) (omega (arith, all, short, more)) in
     let count = c.as_many-count.ensures in
     let le = mul-le c.as_many-count.result u.aim.size c.full_chunks-held.result u.aim.size count.held (omega arith) in
@@ -134,11 +134,11 @@ returns-clause-ok g c =
     let u = worker_of c.args.self.now in
     let b = c.args.self.now.buffer in
     let held = c.full_chunks-held.ensures in
-    let sized : b.size ≡ u.aim.size = c.requires.buffer.sized in
-    let all : length u.behind ≡ length b.full.items * u.aim.size + length b.rest.items = held_bytes b c.requires.buffer.cut ∙ ap (λ (n : ℕ). length b.full.items * n + length b.rest.items) sized in
-    let short : length b.rest.items < u.aim.size = subst (λ (n : ℕ). length b.rest.items < n) sized c.requires.buffer.cut.short in
+    let sized : size_of b ≡ u.aim.size = c.requires.buffer.sized in
+    let all : length u.behind ≡ length (full_of b) * u.aim.size + length (rest_of b) = held_bytes b c.requires.buffer.cut ∙ ap (λ (n : ℕ). length (full_of b) * n + length (rest_of b)) sized in
+    let short : length (rest_of b) < u.aim.size = subst (λ (n : ℕ). length (rest_of b) < n) sized c.requires.buffer.cut.short in
     let most : c.full_chunks-held.result * u.aim.size ≤ length u.behind = subst (λ (n : ℕ). n * u.aim.size ≤ length u.behind) (sym held) (omega (arith, all)) in
-    let more : (length b.full.items + 1) * u.aim.size ≡ length b.full.items * u.aim.size + u.aim.size = omega arith in
+    let more : (length (full_of b) + 1) * u.aim.size ≡ length (full_of b) * u.aim.size + u.aim.size = omega arith in
     let below : length u.behind < (c.full_chunks-held.result + 1) * u.aim.size = subst (λ (n : ℕ). length u.behind < (n + 1) * u.aim.size) (sym held) (omega (arith, all, short, more)) in
     let count = c.as_many-count.ensures in
     let le = mul-le c.as_many-count.result u.aim.size c.full_chunks-held.result u.aim.size count.held (omega arith) in

@@ -1,6 +1,6 @@
 use Rattle.std.proofs.Common.{ℕ, length, nat_le, nat_lt, ap, ◌∙◌}
-use Rattle.mg_gridfs.specs.Buffers.{held_of}
-use Rattle.mg_gridfs.proofs.Buffering.{chunk_held}
+use Rattle.mg_chunks.specs.Buffers.{held_of}
+use Rattle.mg_chunks.proofs.Buffering.{chunk_held}
 use Rattle.mg_gridfs.proofs.steps.Upload.has_chunk.Goals as goal
 
 pub returns : goal.returns

@@ -5,13 +5,13 @@ use Rattle.mg_ops.specs.Drawn.{AreLater}
 use Rattle.mg_ops.specs.Failing.{FailsBy}
 use Rattle.mg_ops.proofs.Drawn.{later_same}
 use Rattle.mg_link.specs.declared.error.Error.{Error}
-use Rattle.mg_gridfs.specs.Buffers.{held_of}
+use Rattle.mg_chunks.specs.Buffers.{held_of}
 use Rattle.mg_gridfs.specs.Commands.{CannotStore, IsNewRequest, chunk_document, chunks_lines}
 use Rattle.mg_gridfs.specs.Steps as steps
 use Rattle.mg_gridfs.specs.Steps.{CannotEnd}
 use Rattle.mg_gridfs.specs.Uploads.{ClientUpload}
 use Rattle.mg_gridfs.specs.UploadView.{worker_of}
-use Rattle.mg_gridfs.proofs.Buffering.{no_full}
+use Rattle.mg_chunks.proofs.Buffering.{no_full}
 use Rattle.mg_gridfs.proofs.Filling.{but_none}
 use Rattle.mg_gridfs.proofs.Stepping.{on_err}
 use Rattle.mg_gridfs.proofs.steps.Upload.last_portion.Goals as goal

@@ -1,7 +1,7 @@
 use Rattle.std.proofs.Common.{◌+◌, ◌*◌, ◌^◌, ◌<◌, ℕ, length, sym, ap, ◌∙◌, subst, arith}
 use Rattle.std.proofs.lemmas.Nat.{column_fits}
-use Rattle.mg_gridfs.specs.Buffers.{held_of}
-use Rattle.mg_gridfs.proofs.Buffering.{short_rest}
+use Rattle.mg_chunks.specs.Buffers.{held_of}
+use Rattle.mg_chunks.proofs.Buffering.{short_rest}
 use Rattle.mg_gridfs.proofs.steps.Upload.length.Goals as goal
 
 pub overflow_mul-full : goal.overflow_mul-full

@@ -1,7 +1,7 @@
 use Rattle.std.proofs.Common.{◌≡◌, ◌+◌, ℕ, List, take, refl, sym, ◌∙◌, subst, arith}
 use Rattle.std.specs.Prelude.{IfOk}
 use Rattle.mg_bson.specs.View.{tree}
-use Rattle.mg_gridfs.specs.Buffers.{held_of}
+use Rattle.mg_chunks.specs.Buffers.{held_of}
 use Rattle.mg_gridfs.specs.Commands.{chunk_document}
 use Rattle.mg_gridfs.proofs.Filling.{front_dropped, front_taken}
 use Rattle.mg_gridfs.proofs.steps.Upload.next_chunk.Goals as goal

@@ -1,6 +1,6 @@
 use Rattle.std.proofs.Common.{◌≡◌, ◌<◌, ◌≤◌, ◌*◌, ℕ, length, drop}
 use Rattle.mg_ops.specs.Drawn.{AreLater}
-use Rattle.mg_gridfs.specs.Buffers.{held_of}
+use Rattle.mg_chunks.specs.Buffers.{held_of}
 use Rattle.mg_gridfs.specs.Steps.{first_chunks}
 use Rattle.mg_gridfs.specs.Turns.{SameButBytes}
 use Rattle.mg_gridfs.specs.UploadView.{HasBuffer, worker_of}

@@ -1,4 +1,4 @@
-use Rattle.std.proofs.Common.{ℕ, [], ◌∷◌, None, refl, sym, ap, ◌∙◌}
+use Rattle.std.proofs.Common.{ℕ, [], ◌∷◌, length, nat_lt, None, refl, sym, ap, ◌∙◌}
 use Rattle.mg_link.specs.Exec.{ticket_at, ticket_of}
 use Rattle.mg_link.specs.Moment.{finished, moment}
 use Rattle.mg_link.proofs.Moments.{keeps_same}
@@ -11,7 +11,7 @@ use Rattle.mg_gridfs.specs.Turns.{turn_ending, turn_ticket}
 use Rattle.mg_gridfs.specs.Uploads.{ends, lasts, rests}
 use Rattle.mg_gridfs.specs.UploadView.{worker_of}
 use Rattle.mg_gridfs.proofs.Filling.{but_none, same_but}
-use Rattle.mg_gridfs.proofs.Stepping.{fail_ends, keeps_undone, none_by, some_by, turn_then}
+use Rattle.mg_gridfs.proofs.Stepping.{chunk_next, fail_ends, keeps_undone, none_by, record_next, some_by, turn_then}
 use Rattle.mg_gridfs.proofs.Unsent.{unended_not_io}
 use Rattle.mg_gridfs.proofs.steps.Upload.rest.Goals as goal
 
@@ -24,24 +24,24 @@ length-length-requires-clause-short g c = c.requires.short
 pub length-length-requires-clause-buffer : goal.length-length-requires-clause-buffer
 length-length-requires-clause-buffer g c = c.requires.buffer
 
-pub has_rest-requires-clause-buffer : goal.has_rest-requires-clause-buffer
-has_rest-requires-clause-buffer g c = c.requires.buffer
+pub closing-requires-clause-buffer : goal.closing-requires-clause-buffer
+closing-requires-clause-buffer g c = c.requires.buffer
 
-pub has_rest-requires-clause-short : goal.has_rest-requires-clause-short
-has_rest-requires-clause-short g c = c.requires.short
+pub closing-requires-clause-short : goal.closing-requires-clause-short
+closing-requires-clause-short g c = c.requires.short
 
 -- ---- nothing is left
 
-pub returns-then-not-has_rest-clause-keeps : goal.returns-then-not-has_rest-clause-keeps
-returns-then-not-has_rest-clause-keeps g c = keeps_same (moment (g.L.Link.awaited c.args.link.now) (g.L.Link.log c.args.link.now) (g.L.Link.faults c.args.link.now) (g.L.Link.pends c.args.link.now) (g.L.Link.wire c.args.link.now) (g.L.Link.prompt c.args.link.now)) None finished (λ n e. cc) refl tt tt
+pub returns-in-Record-clause-keeps : goal.returns-in-Record-clause-keeps
+returns-in-Record-clause-keeps g c = keeps_same (moment (g.L.Link.awaited c.args.link.now) (g.L.Link.log c.args.link.now) (g.L.Link.faults c.args.link.now) (g.L.Link.pends c.args.link.now) (g.L.Link.wire c.args.link.now) (g.L.Link.prompt c.args.link.now)) None finished (λ n e. cc) refl tt tt
 
-pub returns-then-not-has_rest-clause-turns : goal.returns-then-not-has_rest-clause-turns
-returns-then-not-has_rest-clause-turns g c =
-    let empty = none_by (worker_of c.args.self.now).behind (sym c.has_rest.ensures ∙ c.if-not-has_rest.true) in
+pub returns-in-Record-clause-turns : goal.returns-in-Record-clause-turns
+returns-in-Record-clause-turns g c =
+    let empty = none_by (worker_of c.args.self.now).behind (record_next (nat_lt 0 (length (worker_of c.args.self.now).behind)) (sym c.closing.ensures ∙ c.in-Record.is)) in
     (0, later_same (g.I.IdSource.ids c.args.ids.now), (rests_next c.args.time.millis refl (record { rest = λ n. refl; log_same = refl }) (steps.nothing_left empty refl refl (ap (λ (n : ℕ). goes (ends (record { length = n; moment = c.args.time.millis }))) c.length-length.ensures)), refl))
 
-pub returns-then-not-has_rest-clause-same : goal.returns-then-not-has_rest-clause-same
-returns-then-not-has_rest-clause-same g c = (but_none (worker_of c.args.self.now), c.requires.buffer)
+pub returns-in-Record-clause-same : goal.returns-in-Record-clause-same
+returns-in-Record-clause-same g c = (but_none (worker_of c.args.self.now), c.requires.buffer)
 
 -- ---- the last chunk
 
@@ -52,7 +52,7 @@ returns-in-Ok-clause-keeps g c =
 
 pub returns-in-Ok-clause-turns : goal.returns-in-Ok-clause-turns
 returns-in-Ok-clause-turns g c =
-    let some = some_by (worker_of c.args.self.now).behind (sym c.has_rest.ensures ∙ c.if-not-has_rest.false) in
+    let some = some_by (worker_of c.args.self.now).behind (chunk_next (nat_lt 0 (length (worker_of c.args.self.now).behind)) (sym c.closing.ensures ∙ c.in-LastChunk.is)) in
     let b = c.in-Ok.ensures.ok in
     (1, b.drawn, (rests_next c.args.time.millis refl (record { rest = λ n. refl; log_same = refl }) (steps.built some b.small refl c.in-Ok.exec b.request b.left (ap (λ (n : ℕ). goes (lasts c.in-Ok.exec (record { length = n; moment = c.args.time.millis }))) c.length-length.ensures)), refl))
 
@@ -68,7 +68,7 @@ returns-in-Err-clause-keeps g c =
 
 pub returns-in-Err-clause-turns : goal.returns-in-Err-clause-turns
 returns-in-Err-clause-turns g c =
-    let some = some_by (worker_of c.args.self.now).behind (sym c.has_rest.ensures ∙ c.if-not-has_rest.false) in
+    let some = some_by (worker_of c.args.self.now).behind (chunk_next (nat_lt 0 (length (worker_of c.args.self.now).behind)) (sym c.closing.ensures ∙ c.in-LastChunk.is)) in
     let drawn = c.in-Err.ensures.drawn in (
       drawn.0,
       drawn.2,

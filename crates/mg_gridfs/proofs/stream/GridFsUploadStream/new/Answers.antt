@@ -1,6 +1,6 @@
 use Rattle.std.proofs.Common.{Bool, ℕ, List, refl, sym, ap, ◌∙◌, subst, arith}
 use Rattle.mg_gridfs.specs.Buckets.{IsSize}
-use Rattle.mg_gridfs.specs.Buffers.{held_of}
+use Rattle.mg_chunks.specs.Buffers.{held_of}
 use Rattle.mg_gridfs.specs.Uploads as uploads
 use Rattle.mg_gridfs.specs.Uploads.{IsBetween, fresh_upload}
 use Rattle.mg_gridfs.specs.UploadView.{aim_of}

@@ -1,0 +1,3 @@
+mod Judged
+mod Ordered
+pub mod Buffering

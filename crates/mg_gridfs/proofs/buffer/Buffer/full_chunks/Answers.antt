@@ -1,5 +1,0 @@
-use Rattle.std.proofs.Common.{◌∙◌}
-use Rattle.mg_gridfs.proofs.buffer.Buffer.full_chunks.Goals as goal
-
-pub returns : goal.returns
-returns c = c.len.ensures ∙ c.args.self.now.full.ok.0
