@@ -10,6 +10,7 @@ pub mod Keeping
 pub mod Calls
 pub mod Linking
 pub mod Parts
+pub mod Failing
 pub mod Seeks
 pub mod Sent
 pub mod Such

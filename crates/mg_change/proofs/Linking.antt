@@ -21,8 +21,8 @@ use Rattle.mg_change.specs.StreamView.{IsOwnPlace, IsPlaced, IsSavedPlace, IsStr
 use Rattle.mg_change.specs.declared.changes.Changes.{Changes}
 use Rattle.mg_change.specs.declared.changes.Phase.{Phase}
 use Rattle.mg_change.specs.declared.changes.Phase.TheVariants as phase
-use Rattle.mg_change.specs.declared.changes.TokenPlace.{TokenPlace}
-use Rattle.mg_change.specs.declared.changes.TokenPlace.TheVariants as place
+use Rattle.mg_steps.specs.declared.token.TokenPlace.{TokenPlace}
+use Rattle.mg_steps.specs.declared.token.TokenPlace.TheVariants as place
 use Rattle.mg_change.specs.declared.event_poll.EventPoll.{EventPoll}
 use Rattle.mg_change.specs.declared.event_poll.EventPoll.TheVariants as poll
 use Rattle.mg_change.specs.declared.event_poll.Stepped.{Stepped}

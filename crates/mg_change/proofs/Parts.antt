@@ -41,12 +41,13 @@ use Rattle.mg_change.specs.ClientStreams.{ClientStream, Doing, IsAlive, IsHoldin
 use Rattle.mg_change.specs.ClosingStreams.{closed_stream, landing_of, landing_ticket, stream_closing_ticket}
 use Rattle.mg_change.specs.Steps.{CannotResume, DoesStep, FailsMore, FindsIn, HearsClosing, HearsResumption, NoneToBuild, Prepares, LooksAt, ReadsResumption, RunsResumption, TakesMore, asks_more, asks_now, broke, broken, closes, emptied, ends, final, finds, gave, goes_on, is_empty, looks, next_is, no_memory, none, not_asked, not_now, not_resumed, renews, replaced_by, resumes_now, some, waits_more, waits_resumption}
 use Rattle.mg_change.specs.StreamCalls.{Falls, AnswersEvent, LacksToken, event_ending, kept_behind, stepped_ending, steps_left, try_ending}
-use Rattle.mg_change.specs.StreamView.{IsOwnPlace, IsPlaced, IsSavedPlace, IsStream, IsThere, KeepsOwn, SavesBy, SavesWhile, changes_of, doing_of, empty_place, known_at, lent_if, place_by, returned, token_lying, with_token}
+use Rattle.mg_change.specs.StreamView.{IsOwnPlace, IsPlaced, IsSavedPlace, IsStream, IsThere, KeepsOwn, SavesBy, SavesWhile, changes_of, doing_of, empty_place, known_at, lent_if, place_by, returned, token_lying, with_token, was_last}
 use Rattle.mg_change.specs.declared.changes.Changes.{Changes}
 use Rattle.mg_change.specs.declared.changes.Phase.{Phase}
 use Rattle.mg_change.specs.declared.changes.Phase.TheVariants as phase
-use Rattle.mg_change.specs.declared.changes.TokenPlace.{TokenPlace}
-use Rattle.mg_change.specs.declared.changes.TokenPlace.TheVariants as place
+use Rattle.mg_steps.specs.Token.{place_behind}
+use Rattle.mg_steps.specs.declared.token.TokenPlace.{TokenPlace}
+use Rattle.mg_steps.specs.declared.token.TokenPlace.TheVariants as place
 use Rattle.mg_change.specs.declared.counts.Counts.{Counts}
 use Rattle.mg_change.specs.declared.event_poll.EventPoll.{EventPoll}
 use Rattle.mg_change.specs.declared.event_poll.Stepped.{Stepped}
@@ -497,27 +498,14 @@ emptied_placed s t lies saved on quiet =
     (subst (λ (x : TokenPlace). IsThere x (current_of s.buffer) (client_of s.batches).token) (sym lies)
     (there_empty s.token (current_of s.buffer) (client_of s.batches).token (placed_saved s (saved_is s.token saved)).there))
 
-pub empty_some : (t : TokenPlace) (o : Option Tree) → is_some o ≡ true → place.Batch ≡ empty_place t o
-empty_some t (Some token) h = refl
-empty_some t None h = absurd cc
+last_of : (events : List (List ℕ)) (last : Bool) → (IsTrue last ↔ (events ≡ [])) → last ≡ was_last events
+last_of [] last means = means.1 refl
+last_of (e ∷ es) true means = let bad : e ∷ es ≡ [] = means.0 refl in absurd cc
+last_of (e ∷ es) false means = refl
 
-pub empty_none : (t : TokenPlace) (o : Option Tree) → is_some o ≡ false → t ≡ empty_place t o
-empty_none t (Some token) h = absurd cc
-empty_none t None h = refl
-
-pub place_more : (events : List (List ℕ)) (o : Option Tree) → events ≢ [] → place.Event ≡ place_by events o
-place_more [] o left = absurd (left refl)
-place_more (e ∷ es) o left = refl
-
-pub place_some : (events : List (List ℕ)) (o : Option Tree) → events ≡ [] → is_some o ≡ true → place.Batch ≡ place_by events o
-place_some [] (Some token) none_left h = refl
-place_some [] None none_left h = absurd cc
-place_some (e ∷ es) o none_left h = absurd cc
-
-pub place_none : (events : List (List ℕ)) (o : Option Tree) → events ≡ [] → is_some o ≡ false → place.Event ≡ place_by events o
-place_none [] (Some token) none_left h = absurd cc
-place_none [] None none_left h = refl
-place_none (e ∷ es) o none_left h = absurd cc
+-- where the token lies, by what is read of the buffer and of the batches
+pub placed_by : (events : List (List ℕ)) (o : Option Tree) (last has : Bool) → (IsTrue last ↔ (events ≡ [])) → has ≡ is_some o → place_behind last has ≡ place_by events o
+placed_by events o last has means is = ap (place_behind last) is ∙ ap (λ (b : Bool). place_behind b (is_some o)) (last_of events last means)
 
 -- ---- the next event
 

@@ -31,8 +31,8 @@ use Rattle.mg_change.specs.ClientStreams.{token_known}
 use Rattle.mg_change.specs.ClosingStreams.{BehindMore, BehindOpening, ClosesStream, ClosingStream, HearsKill, IsSoundClosing, IsToKill, KillsLeft, Landing, LandsSoundly, PassesOver, RunsKill, begins, ends, handed_over, ids_left, kill_left, lands, lands_aggregate, lands_more, lands_replaced, opened_none, opened_one, unless_none}
 use Rattle.mg_change.specs.ClosingView.{IsClosingIn, SavesIn, closing_in, remains_token}
 use Rattle.mg_change.specs.StreamView.{IsSavedPlace, SavesWhile, is_lent, token_lying, with_token}
-use Rattle.mg_change.specs.declared.changes.TokenPlace.{TokenPlace}
-use Rattle.mg_change.specs.declared.changes.TokenPlace.TheVariants as place
+use Rattle.mg_steps.specs.declared.token.TokenPlace.{TokenPlace}
+use Rattle.mg_steps.specs.declared.token.TokenPlace.TheVariants as place
 use Rattle.mg_change.specs.declared.closing.Remains.{Remains}
 
 -- ---- a new closing

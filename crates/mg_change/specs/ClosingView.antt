@@ -6,7 +6,7 @@ use Rattle.mg_cursor.specs.View.{client_of, current_of}
 use Rattle.mg_change.specs.ClientStreams.{token_known}
 use Rattle.mg_change.specs.ClosingStreams.{ClosingStream, IsSoundClosing, Landing, ends, lands, lands_aggregate, lands_replaced}
 use Rattle.mg_change.specs.StreamView.{SavesWhile, is_lent, token_lying}
-use Rattle.mg_change.specs.declared.changes.TokenPlace.{TokenPlace}
+use Rattle.mg_steps.specs.declared.token.TokenPlace.{TokenPlace}
 use Rattle.mg_change.specs.declared.closing.Underway.{Underway}
 use Rattle.mg_change.specs.declared.closing.Underway.TheVariants as underway
 use Rattle.mg_change.specs.declared.closing.Remains.{Remains}

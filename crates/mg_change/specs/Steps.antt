@@ -10,6 +10,11 @@ use Rattle.mg_link.specs.declared.action.Step.{Step}
 use Rattle.mg_link.specs.declared.action.Step.TheVariants as step
 use Rattle.mg_link.specs.declared.error.Error.{Error}
 use Rattle.mg_link.specs.declared.error.ErrorKind.TheVariants as kind
+use Rattle.mg_steps.specs.Failures.{IsFault, after_failure}
+use Rattle.mg_steps.specs.declared.failures.AfterFailure.{AfterFailure}
+use Rattle.mg_steps.specs.declared.failures.AfterFailure.TheVariants as after
+use Rattle.mg_steps.specs.declared.failures.Fault.{Fault}
+use Rattle.mg_steps.specs.declared.failures.StreamCommand.{StreamCommand}
 use Rattle.mg_ops.specs.Cursors.{BreaksIn, OpensWithTime}
 use Rattle.mg_ops.specs.Failing.{CannotBeSent, FailsBy, HasBadSize}
 use Rattle.mg_ops.specs.declared.aggregate.ChangeStreamAggregate.{ChangeStreamAggregate}
@@ -43,6 +48,21 @@ pub data LooksAt (again : Bool) (s : ClientStream) (c : ClientCursor) (reply : L
   some : (event : List ℕ) (events : List (List ℕ)) → documents_of reply ≡ Some (event ∷ events) → s' ≡ holding_with c (event ∷ events) s → r ≡ stepped.Found → LooksAt again s c reply s' r
   none : documents_of reply ≡ Some [] → s' ≡ emptied c s → r ≡ stepped.Gives (try.Ready result.Waiting) → LooksAt again s c reply s' r
   broken : (e : Error) → BreaksBatch reply e → s' ≡ owing_with c s → r ≡ broken_by again e → LooksAt again s c reply s' r
+
+-- ---- a failure
+
+-- what a stream does after a command of it failed with this error
+abbrev pub LeadsTo : AfterFailure → ClientStream → Error → ClientStream → Stepped → Type 0
+LeadsTo after.Resumes s e s' r = (s' ≡ record s { doing = owes }) × (r ≡ stepped.Goes)
+LeadsTo after.Owes s e s' r = (s' ≡ record s { doing = owes }) × (r ≡ stepped.Gives (try.Failed e))
+LeadsTo after.Fails s e s' r = (s' ≡ s) × (r ≡ stepped.Gives (try.Failed e))
+LeadsTo after.PassesOver s e s' r = (s' ≡ record s { doing = renewed }) × (r ≡ stepped.Goes)
+
+-- after this command of it did
+pub record Leads (command : StreamCommand) (s : ClientStream) (e : Error) (s' : ClientStream) (r : Stepped) : Type 0 where
+  pub fault : Fault
+  pub is : IsFault e fault
+  pub leads : LeadsTo (after_failure command fault) s e s' r
 
 -- ---- a getMore
 
@@ -89,7 +109,7 @@ pub data ReadsResumption (s : ClientStream) (reply : List ℕ) (s' : ClientStrea
 abbrev pub HearsResumption : ClientStream → Step Sending (List ℕ) → ClientStream → Stepped → Type 0
 HearsResumption s (step.Pending sending) s' r = (s' ≡ record s { doing = resumes sending }) × (r ≡ stepped.Gives try.Pending)
 HearsResumption s (step.Done reply) s' r = ReadsResumption s reply s' r
-HearsResumption s (step.Failed e) s' r = (s' ≡ record s { doing = owes }) × (r ≡ stepped.Gives (try.Failed e))
+HearsResumption s (step.Failed e) s' r = LeadsTo after.Owes s e s' r
 
 -- a poll of the aggregate over the link, and what comes of it
 pub record RunsResumption (old new : Awaited) (log log' : LogTold) (wire : ℤ) (started : Bool) (s : ClientStream) (sending : Sending) (s' : ClientStream) (r : Stepped) : Type 0 where

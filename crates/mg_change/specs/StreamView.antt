@@ -1,8 +1,9 @@
 -- What the parts of change streams are seen as.
-use Rattle.std.specs.Prelude.{◌≡◌, ℕ, Bool, true, false, List, [], ◌∷◌, Option, Some, None, option_and_then, option_map}
+use Rattle.std.specs.Prelude.{◌≡◌, ℕ, Bool, true, false, List, [], ◌∷◌, Option, Some, None, is_some, option_and_then, option_map}
 use Rattle.mg_bson.specs.Tree.{Tree}
 use Rattle.mg_ops.specs.declared.aggregate.ChangeStreamAggregate.{ChangeStreamAggregate}
 use Rattle.mg_ops.specs.declared.change_stream.ChangeStreamData.{ChangeStreamData}
+use Rattle.mg_steps.specs.Token.{place_behind, place_empty}
 use Rattle.mg_cursor.specs.Client.{asks, holds, rests}
 use Rattle.mg_cursor.specs.Client as cursors
 use Rattle.mg_cursor.specs.View.{behind_of, client_of, current_of}
@@ -10,8 +11,8 @@ use Rattle.mg_change.specs.ClientStreams.{ClientStream, Doing, IsSound, follows,
 use Rattle.mg_change.specs.declared.changes.Changes.{Changes}
 use Rattle.mg_change.specs.declared.changes.Phase.{Phase}
 use Rattle.mg_change.specs.declared.changes.Phase.TheVariants as phase
-use Rattle.mg_change.specs.declared.changes.TokenPlace.{TokenPlace}
-use Rattle.mg_change.specs.declared.changes.TokenPlace.TheVariants as place
+use Rattle.mg_steps.specs.declared.token.TokenPlace.{TokenPlace}
+use Rattle.mg_steps.specs.declared.token.TokenPlace.TheVariants as place
 use Rattle.mg_change.specs.declared.session_stream.SessionChangeStream.{SessionChangeStream}
 use Rattle.mg_change.specs.declared.stream.ChangeStream.{ChangeStream}
 
@@ -106,16 +107,18 @@ SavesWhile at rests = Unit {0}
 SavesWhile at (holds reply) = IsSavedPlace at
 SavesWhile at (asks sending) = IsSavedPlace at
 
--- where it lies behind the event that was given: behind the batch, where that was the last one and the batch has one
-abbrev pub place_by : List (List ℕ) → Option Tree → TokenPlace
-place_by [] (Some token) = place.Batch
-place_by [] None = place.Event
-place_by (e ∷ es) token = place.Event
+-- the event that was given was the last one of its batch
+abbrev pub was_last : List (List ℕ) → Bool
+was_last [] = true
+was_last (e ∷ es) = false
 
--- where it lies behind an empty batch: behind the batch, where that has one
+-- where it lies behind the event that was given
+abbrev pub place_by : List (List ℕ) → Option Tree → TokenPlace
+place_by events token = place_behind (was_last events) (is_some token)
+
+-- where it lies behind an empty batch
 abbrev pub empty_place : TokenPlace → Option Tree → TokenPlace
-empty_place at (Some token) = place.Batch
-empty_place at None = at
+empty_place at token = place_empty at (is_some token)
 
 -- with this token
 abbrev pub with_token : Option Tree → ChangeStreamAggregate → ChangeStreamAggregate

@@ -29,11 +29,12 @@ use crate::counts::Counts;
 use crate::event_poll::{EventPoll, Stepped};
 pub(crate) use answering::{event_token, saved_token};
 use mg_bson::RawDocument;
-use mg_cursor::{AdvanceResult, BatchBuffer, Batches, NextPoll, RawBatch, TryPoll, is_memory};
+use mg_cursor::{AdvanceResult, BatchBuffer, Batches, NextPoll, RawBatch, TryPoll};
 use mg_exec::Exec;
 use mg_link::{ClientSessionHandle, Error, Link};
 use mg_ops::{ChangeStreamAggregate, CursorSpecification};
 use mg_options::TokenRef;
+use mg_steps::{StreamCommand, TokenPlace};
 use std::alloc::Global;
 use std::mem;
 
@@ -50,17 +51,6 @@ pub(crate) enum Phase {
     Kills(mg_cursor::Closing),
     // Nothing: the first batch of a resumption is in hand.
     Renewed,
-}
-
-// Where the cached token lies. It is copied into the stream only before the batch in hand goes.
-#[derive(Clone, Copy)]
-pub(crate) enum TokenPlace {
-    // In what the stream resumes by.
-    Saved,
-    // In the event that was given last.
-    Event,
-    // Behind the newest batch.
-    Batch,
 }
 
 // A change stream. How it holds its session is handed to each call.
@@ -467,21 +457,14 @@ impl Changes {
         }
     }
 
-    // A getMore failed. The stream is to resume, unless the server refused it for good.
+    // A getMore failed.
     fn fail(&mut self, error: Error) -> Stepped
         requires follows { (changes_of self.old).doing ≡ follows }
         requires none_left { (changes_of self.old).behind ≡ [] }
         ensures fails { FailsMore (changes_of self.old) (changes_of self.old).cursor error (changes_of self.new) result }
         ensures place { self.new.token ≡ self.old.token }
     {
-        if error.is_resumable() {
-            self.enter(Phase::Owes);
-            return Stepped::Goes;
-        }
-        if is_memory(&error) {
-            return self.owe(error);
-        }
-        Stepped::Gives(TryPoll::Failed(error))
+        self.lead(StreamCommand::GetMore, error)
     }
 }
 

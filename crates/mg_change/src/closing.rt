@@ -19,7 +19,7 @@ ghost use Rattle.mg_change.specs.ClosingView.{IsClosingIn, closing_in, landing_i
 ghost use Rattle.mg_change.specs.Following.{OnPending, follow_closed, follow_closing};
 ghost use Rattle.mg_change.specs.StreamView.{SavesWhile, doing_of, is_lent, token_lying, with_token};
 
-use crate::changes::{Phase, TokenPlace, event_token, saved_token};
+use crate::changes::{Phase, event_token, saved_token};
 use crate::commands::kill;
 use mg_bson::RawDocumentBuf;
 use mg_cursor::{BatchBuffer, Batches, NextPoll, is_memory};
@@ -27,6 +27,7 @@ use mg_exec::Exec;
 use mg_link::{Action, Error, Link, Step};
 use mg_ops::{ChangeStreamAggregate, Operation};
 use mg_options::{ResumeToken, TokenRef};
+use mg_steps::TokenPlace;
 use std::alloc::Global;
 use std::marker::Model;
 

@@ -1,16 +1,16 @@
 -- What the calls of a cursor that gives its documents come to, in small.
-use Rattle.std.proofs.Common.{◌≡◌, ◌≢◌, ◌⊎◌, ◌↔◌, ℕ, zero, suc, pos, Bool, true, false, IsTrue, List, [], ◌∷◌, Option, Some, None, Result, Ok, Err, IfErr, IfOk, is_some, refl, sym, ap, ◌∙◌, subst, inl, inr}
+use Rattle.std.proofs.Common.{◌≡◌, ◌⊎◌, ◌↔◌, ℕ, zero, suc, Bool, true, false, IsTrue, List, [], ◌∷◌, Option, Some, None, Result, Ok, Err, IfErr, IfOk, is_some, refl, sym, ap, ◌∙◌, subst, inl, inr}
 use Rattle.std.specs.Prelude.{if◌then◌else◌}
 use Rattle.std.proofs.lemmas.Bool.{iff_false}
 use Rattle.mg_bson.specs.Walks.{Walk, advanced, advanced_to}
 use Rattle.mg_link.specs.Errors.{plain}
 use Rattle.mg_link.specs.Exec.{Sending}
-use Rattle.mg_link.specs.Pinned.{is_invalid}
 use Rattle.mg_link.specs.Session.{Session, after_command}
 use Rattle.mg_link.specs.declared.error.Error.{Error}
 use Rattle.mg_link.specs.declared.error.ErrorKind.TheVariants as kind
 use Rattle.mg_link.specs.declared.error.Malformed.{Malformed}
 use Rattle.mg_records.specs.Readings.{FailsToRead}
+use Rattle.mg_steps.specs.Cursors.{HasNext as HasNextBy}
 use Rattle.mg_cursor.specs.Client.{ClientCursor, HasNext, HoldsItems, IsOver, MayAsk, asks, holds, rests}
 use Rattle.mg_cursor.specs.Documents.{DocumentCursor, HasMore, ReadsAs, ReadsBy}
 use Rattle.mg_cursor.specs.Seeking.{CopiesIf, one_if, session_moved, times}
@@ -88,18 +88,6 @@ reads_by seen read (Err e) ok err = err
 pub reads_as : {T Record : Type 0} (stands_for : List ℕ → Result Record Malformed) (seen : T → Record) (document : List ℕ) (o : Option (List ℕ)) (r : Result T Error) → Some document ≡ o → IfOk r (λ x. stands_for document ≡ Ok (seen x)) → IfErr r (λ e. FailsToRead (stands_for document) e) → ReadsAs stands_for seen o r
 reads_as stands_for seen document o r there ok err = subst (λ (x : Option (List ℕ)). ReadsAs stands_for seen x r) there (reads_by seen (stands_for document) r ok err)
 
--- ---- cursors that are over
-
-pub over_ended : (c : ClientCursor) → c.id ≡ pos 0 → IsTrue true ↔ IsOver c
-over_ended c ended = (λ t. inl ended, λ h. refl)
-
-pub over_lost : (c : ClientCursor) (lost : Bool) → c.id ≢ pos 0 → lost ≡ is_invalid c.pinned → IsTrue lost ↔ IsOver c
-over_lost c lost open_still is = (λ t. inr (sym is ∙ t), λ h. is ∙ only h)
-  where
-    only : IsOver c → is_invalid c.pinned ≡ true
-    only (inl ended) = absurd (open_still ended)
-    only (inr invalid) = invalid
-
 -- ---- what is asked for next
 
 pub holds_still : (reply : List ℕ) → holds reply ≡ rests → ⊥
@@ -120,15 +108,16 @@ to_ask c over means not quiet = (λ t. (quiet, may_ask c over means not), λ h. 
 
 -- ---- what may follow
 
-pub next_open : (c : ClientCursor) → c.id ≢ pos 0 → IsTrue true ↔ HasNext c
-next_open c open_still = (λ t. inl open_still, λ h. refl)
-
-pub next_held : (c : ClientCursor) (held : Bool) → c.id ≡ pos 0 → (IsTrue held ↔ HoldsItems c.doing) → IsTrue held ↔ HasNext c
-next_held c held ended means = (λ t. inr (means.0 t), λ h. means.1 (only h))
+pub next_held : (c : ClientCursor) (held next : Bool) → (IsTrue next ↔ HasNextBy c.id (IsTrue held)) → (IsTrue held ↔ HoldsItems c.doing) → IsTrue next ↔ HasNext c
+next_held c held next means holds_so = (λ t. onto (means.0 t), λ h. means.1 (back h))
   where
-    only : HasNext c → HoldsItems c.doing
-    only (inl open_still) = absurd (open_still ended)
-    only (inr some) = some
+    onto : HasNextBy c.id (IsTrue held) → HasNext c
+    onto (inl open_still) = inl open_still
+    onto (inr some) = inr (holds_so.0 some)
+
+    back : HasNext c → HasNextBy c.id (IsTrue held)
+    back (inl open_still) = inl open_still
+    back (inr some) = inr (holds_so.1 some)
 
 pub more_there : (d : DocumentCursor) (there : Bool) → there ≡ is_some d.current → there ≡ true → IsTrue true ↔ HasMore d
 more_there d there is so = (λ t. inl (sym is ∙ so), λ h. refl)

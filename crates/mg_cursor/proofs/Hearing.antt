@@ -2,7 +2,7 @@
 use Rattle.std.proofs.Common.{◌≡◌, ◌↔◌, ℕ, ℤ, pos, Bool, true, false, IsTrue, List, Option, Some, None, refl, sym, ap, ◌∙◌, subst, inl, inr}
 use Rattle.std.specs.Ordering.{int_eq}
 use Rattle.std.specs.Prelude.{if◌then◌else◌}
-use Rattle.std.proofs.lemmas.Bool.{false_from_ne_true, iff_false}
+use Rattle.std.proofs.lemmas.Bool.{false_from_ne_true}
 use Rattle.std.proofs.lemmas.Bool.Decides.{Decides-int_eq}
 use Rattle.mg_bson.specs.Raw.{fields}
 use Rattle.mg_bson.specs.Tree.{Tree, Fields}
@@ -11,7 +11,6 @@ use Rattle.mg_link.specs.Errors.{command_code, plain}
 use Rattle.mg_link.specs.Exec.{Sending, ticket_of}
 use Rattle.mg_link.specs.Link.{Awaited, LogTold}
 use Rattle.mg_link.specs.Moment.{Ending, finished, failed, LinkKeeps, Moment, step_ending}
-use Rattle.mg_link.specs.Pinned.{is_invalid}
 use Rattle.mg_link.specs.Session.{Session}
 use Rattle.mg_server.specs.Step.{ends_cursor}
 use Rattle.mg_link.specs.declared.action.Step.{Step}
@@ -25,6 +24,7 @@ use Rattle.mg_link.specs.declared.pinned.PinnedConnection.{PinnedConnection}
 use Rattle.mg_link.specs.declared.pinned.PinnedConnection.TheVariants as connection
 use Rattle.mg_ops.specs.Cursors.{BreaksIn, Cursor}
 use Rattle.mg_ops.specs.Failing.{CannotBeSent, FailsBy}
+use Rattle.mg_steps.proofs.Asking.{may_ask as may_by}
 use Rattle.mg_cursor.specs.Client.{ClientCursor, Doing, IsOver, MayAsk, asks, at_rest, behind_failure, behind_kind, behind_reply, client_ticket, cut_off, is_ending, let_go, pinned_behind, rests, ticket_by, unless_ended}
 use Rattle.mg_cursor.specs.Polling.{CannotAsk, Hears, PollsNext, ReadsReply, RunsMore, broke, gave, next_ending}
 use Rattle.mg_cursor.specs.declared.polls.NextPoll.{NextPoll}
@@ -123,10 +123,7 @@ noted e c c' is note = note ∙ sym (rested (behind_kind e.kind c) (behind_doing
 
 -- it may ask where it is not over
 pub may_ask : (c : ClientCursor) (over : Bool) → (IsTrue over ↔ IsOver c) → over ≡ false → MayAsk c
-may_ask c over means not = record {
-  held = λ zero_is. iff_false means not (inl zero_is);
-  reached = false_from_ne_true (is_invalid c.pinned) (λ lost. iff_false means not (inr lost));
-}
+may_ask c over means not = may_by c.id c.pinned over means not
 
 -- ---- how it ended
 

@@ -1,5 +1,5 @@
 -- The polls of a closing: what they keep of the link, and what comes behind the getMore on its way.
-use Rattle.std.proofs.Common.{◌≡◌, ℕ, ℤ, List, Option, Some, None, refl, sym, ap, subst}
+use Rattle.std.proofs.Common.{◌≡◌, ℕ, ℤ, Bool, true, false, List, Option, Some, None, refl, sym, ap, subst}
 use Rattle.mg_link.specs.Acts.{EndsAtOnce, FailsByFault, Pended, ticket_after}
 use Rattle.mg_link.specs.Exec.{Sending, ticket_at, ticket_of}
 use Rattle.mg_link.specs.Link.{Awaited, LogTold}
@@ -8,7 +8,8 @@ use Rattle.mg_link.specs.declared.action.Step.{Step}
 use Rattle.mg_link.specs.declared.action.Step.TheVariants as step
 use Rattle.mg_link.specs.declared.error.Error.{Error}
 use Rattle.mg_link.proofs.Moments.{keeps_on}
-use Rattle.mg_cursor.specs.Client.{ClientCursor, IsNew, client_ticket, kill, rests, ticket_by}
+use Rattle.mg_steps.specs.Cursors.{KillsIf}
+use Rattle.mg_cursor.specs.Client.{ClientCursor, IsNew, IsOver, MayAsk, client_ticket, kill, rests, ticket_by}
 use Rattle.mg_cursor.specs.Closing.{BehindFailure, BehindMore, ClosesBy, ClosingCursor, ClosingPolls, IsKilling, KillsCursor, LandsIn, begins, closed, heard, lands, quiet}
 use Rattle.mg_cursor.specs.Polling.{Hears, ReadsReply, broke, gave}
 use Rattle.mg_cursor.specs.declared.polls.NextPoll.{NextPoll}
@@ -31,6 +32,14 @@ pub at_once_step : {S T : Type 0} (r : Step S T) → IsAtOnce (step_ending r) �
 at_once_step (step.Pending s) h = h
 at_once_step (step.Done t) h = h
 at_once_step (step.Failed e) h = h
+
+-- ---- whether it is killed
+
+pub to_kill : (c : ClientCursor) (kills : Bool) → kills ≡ true → KillsIf kills c.id c.pinned → MayAsk c
+to_kill c kills is means = subst (λ (b : Bool). KillsIf b c.id c.pinned) is means
+
+pub spared : (c : ClientCursor) (kills : Bool) → kills ≡ false → KillsIf kills c.id c.pinned → IsOver c
+spared c kills is means = subst (λ (b : Bool). KillsIf b c.id c.pinned) is means
 
 -- ---- a cursor whose getMore landed
 

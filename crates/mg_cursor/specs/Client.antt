@@ -1,14 +1,15 @@
 -- A cursor as its client keeps it (find, getMore and killCursors specification).
-use Rattle.std.specs.Prelude.{◌≡◌, ◌≢◌, ◌⊎◌, ℕ, ℤ, pos, Bool, true, false, List, [], ◌∷◌, Option, Some, None, if◌then◌else◌}
+use Rattle.std.specs.Prelude.{◌≡◌, ℕ, ℤ, pos, Bool, true, false, List, [], ◌∷◌, Option, Some, None, if◌then◌else◌}
 use Rattle.std.specs.Ordering.{int_eq}
 use Rattle.mg_bson.specs.Bytes.{bytes}
 use Rattle.mg_bson.specs.Raw.{fields}
 use Rattle.mg_bson.specs.Tree.{Tree, Fields}
 use Rattle.mg_link.specs.Exec.{Sending, unsent, ticket_of, IsFirstTry}
 use Rattle.mg_link.specs.Namespace.{Space, space}
-use Rattle.mg_link.specs.Pinned.{invalidated, is_invalid}
+use Rattle.mg_link.specs.Pinned.{invalidated}
 use Rattle.mg_link.specs.Session.{Session}
 use Rattle.mg_server.specs.Step.{ends_cursor}
+use Rattle.mg_steps.specs.Cursors as steps
 use Rattle.mg_link.specs.declared.error.Error.{Error}
 use Rattle.mg_link.specs.declared.error.ErrorKind.{ErrorKind}
 use Rattle.mg_link.specs.declared.error.ErrorKind.TheVariants as kind
@@ -50,14 +51,13 @@ get_more c session = in_session session (next_command c.id c.space c.manner)
 abbrev pub kill : ClientCursor → Fields
 kill c = kill_command c.space (c.id ∷ [])
 
--- A command of it may be sent: the server holds it, and its connection was not lost.
-pub record MayAsk (c : ClientCursor) : Type 0 where
-  pub held : c.id ≢ pos 0
-  pub reached : is_invalid c.pinned ≡ false
+-- a command of it may be sent
+abbrev pub MayAsk : ClientCursor → Type 0
+MayAsk c = steps.MayAsk c.id c.pinned
 
 -- no command of it is sent any more
 abbrev pub IsOver : ClientCursor → Type 0
-IsOver c = (c.id ≡ pos 0) ⊎ (is_invalid c.pinned ≡ true)
+IsOver c = steps.IsOver c.id c.pinned
 
 -- ---- where it is behind what it heard
 
@@ -179,4 +179,4 @@ HoldsItems (asks sending) = ⊥
 
 -- the server may hold more of it, or documents are in hand
 abbrev pub HasNext : ClientCursor → Type 0
-HasNext c = (c.id ≢ pos 0) ⊎ HoldsItems c.doing
+HasNext c = steps.HasNext c.id (HoldsItems c.doing)

@@ -6,6 +6,7 @@ ghost use Rattle.mg_link.specs.Exec.{Sending, ticket_of};
 ghost use Rattle.mg_link.specs.Moment.{LinkKeeps, moment};
 ghost use Rattle.mg_link.specs.Namespace.{space};
 ghost use Rattle.mg_server.specs.Reader.{ReadMoved, Reader};
+ghost use Rattle.mg_steps.specs.Cursors.{KillsIf};
 ghost use Rattle.mg_ops.specs.Failing.{CannotBeSent, FailsBy};
 ghost use Rattle.mg_ops.specs.Naming.{IsNamed};
 ghost use Rattle.mg_cursor.specs.Causes.{NextCaused};
@@ -22,9 +23,12 @@ use crate::polls::NextPoll;
 use crate::raw_batch::RawBatch;
 use mg_bson::RawDocumentBuf;
 use mg_exec::Exec;
-use mg_link::{Action, ClientSession, ClientSessionHandle, Error, Link, Namespace, PinnedConnection, Step};
+use mg_link::{
+    Action, ClientSession, ClientSessionHandle, Error, Link, Namespace, PinnedConnection, Step,
+};
 use mg_ops::{CursorInformation, CursorSpecification, GetMoreResult, read_more};
 use mg_options::{ResumeToken, TokenRef};
+use mg_steps::{has_next, is_over, is_to_kill};
 use std::alloc::Global;
 use std::mem;
 
@@ -171,10 +175,7 @@ impl Batches {
     pub fn has_next(&self) -> bool
         ensures { IsTrue result ↔ HasNext (client_of self.now) }
     {
-        if self.cursor.id == 0 {
-            return self.holds_items();
-        }
-        true
+        has_next(self.cursor.id, self.holds_items())
     }
 
     /// Whether the server holds the cursor no longer.
@@ -244,10 +245,14 @@ impl Batches {
     pub(crate) fn is_over(&self) -> bool
         ensures { IsTrue result ↔ IsOver (client_of self.now) }
     {
-        if self.cursor.id == 0 {
-            return true;
-        }
-        self.pinned.is_invalid()
+        is_over(self.cursor.id, self.pinned)
+    }
+
+    // Whether it is killed as it is closed.
+    pub(crate) fn is_to_kill(&self) -> bool
+        ensures { KillsIf result (client_of self.now).id (client_of self.now).pinned }
+    {
+        is_to_kill(self.cursor.id, self.pinned)
     }
 
     // Its killCursors.

@@ -79,7 +79,7 @@ fn kill_cursor<L: Link>(link: &mut L, batches: Batches) -> Step<Closing, ()>
         (None) (ticket_after closing_ticket result) (step_ending result) }
     ensures kills { KillsCursor (L.awaited link.old) (L.awaited link.new) (L.log link.old) (L.log link.new) (L.wire link.old) (client_of batches) result }
 {
-    if batches.is_over() {
+    if !batches.is_to_kill() {
         return Step::Done(());
     }
     match batches.kill_command(link.wire_version()) {

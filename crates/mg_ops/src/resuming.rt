@@ -1,53 +1,61 @@
 //! How a change stream resumes.
-ghost use Rattle.std.specs.Prelude.{◌≡◌, IfOk, IfErr};
+ghost use Rattle.std.specs.Prelude.{◌≡◌, IfErr, IfOk, Some};
+ghost use Rattle.mg_bson.specs.Tree.{Tree};
+ghost use Rattle.mg_bson.specs.declared.tree.Timestamp.{Timestamp};
 ghost use Rattle.mg_link.specs.Errors.{plain};
 ghost use Rattle.mg_link.specs.declared.error.ErrorKind.TheVariants as kinds;
 ghost use Rattle.mg_options.specs.Copies.{SameChangeStreamOptions};
-ghost use Rattle.mg_ops.specs.Resuming.{has_start, resume_at, resume_behind, resumed, saved_time};
+ghost use Rattle.mg_ops.specs.Resuming.{resume_behind, resumed, saved_time, standing, start_at};
 
 use crate::change_stream::{ChangeStreamData, WatchArgs};
 use mg_bson::Timestamp;
 use mg_link::Error;
 use mg_options::{ChangeStreamOptions, ResumeToken};
+use mg_steps::{Resumption, Standing, TIMES_FROM, resumption_of};
 
-/// The first wire version at which a server takes a time to start at.
-const TIMES_FROM: i32 = 7;
+// What a stream of these options knows of its place in this state.
+fn standing(options: &ChangeStreamOptions, state: &ChangeStreamData) -> Standing
+    ensures { result ≡ standing options.now state.now }
+{
+    Standing {
+        has_token: state.resume_token.is_some(),
+        starts_after: options.start_after.is_some(),
+        document_returned: state.document_returned,
+        has_time: state.initial_operation_time.is_some(),
+    }
+}
 
 // Behind the token: by `start_after` where that is to be kept, and else by `resume_after`.
 fn resume_behind(
     options: ChangeStreamOptions,
-    token: ResumeToken,
+    token: &Option<ResumeToken>,
     keeps_start_after: bool,
-) -> ChangeStreamOptions
-    ensures options { result ≡ resume_behind keeps_start_after options token }
-    ensures size { result.batch_size ≡ options.batch_size }
+) -> Result<ChangeStreamOptions, Error>
+    ensures ok { IfOk result (λ o. (behind : Tree) → token.now ≡ Some behind → o ≡ resume_behind keeps_start_after options behind) }
+    ensures size { IfOk result (λ o. o.batch_size ≡ options.batch_size) }
+    ensures err { IfErr result (λ e. e ≡ plain kinds.OutOfMemory) }
 {
+    let token = token.clone()?;
     let mut options = options;
     options.start_at_operation_time = None;
     if keeps_start_after {
-        options.start_after = Some(token);
+        options.start_after = token;
     } else {
-        options.resume_after = Some(token);
+        options.resume_after = token;
         options.start_after = None;
     }
-    options
+    Ok(options)
 }
 
 // With no token: at the time that was given, or else at the one that was saved.
-fn resume_at(
-    options: ChangeStreamOptions,
-    saved: Option<Timestamp>,
-    wire: i32,
-) -> ChangeStreamOptions
-    ensures options { result ≡ resume_at options saved wire }
+fn resume_at(options: ChangeStreamOptions, saved: Option<Timestamp>) -> ChangeStreamOptions
+    ensures options { (time : Timestamp) → saved ≡ Some time → result ≡ start_at time options }
     ensures size { result.batch_size ≡ options.batch_size }
 {
     let mut options = options;
     if let Some(time) = saved {
-        if wire >= TIMES_FROM {
-            let start = options.start_at_operation_time.unwrap_or(time);
-            options.start_at_operation_time = Some(start);
-        }
+        let start = options.start_at_operation_time.unwrap_or(time);
+        options.start_at_operation_time = Some(start);
     }
     options
 }
@@ -62,12 +70,11 @@ fn resumed(
     ensures size { IfOk result (λ o. o.batch_size ≡ options.batch_size) }
     ensures err { IfErr result (λ e. e ≡ plain kinds.OutOfMemory) }
 {
-    match &state.resume_token {
-        Some(token) => {
-            let keeps = options.start_after.is_some() && !state.document_returned;
-            Ok(resume_behind(options, token.clone()?, keeps))
-        }
-        None => Ok(resume_at(options, state.initial_operation_time, wire)),
+    match resumption_of(standing(&options, state), wire) {
+        Resumption::StartAfter => resume_behind(options, &state.resume_token, true),
+        Resumption::ResumeAfter => resume_behind(options, &state.resume_token, false),
+        Resumption::AtTime => Ok(resume_at(options, state.initial_operation_time)),
+        Resumption::AsOpened => Ok(options),
     }
 }
 

@@ -10,7 +10,7 @@ ghost use Rattle.mg_change.specs.Steps.{FindsIn};
 ghost use Rattle.mg_change.specs.StreamCalls.{CannotCopy, CopiesEvent, CountsIfOpen, EndsBehind, EndsEmpty, EndsGiven, AnswersEvent, LacksToken, LendsEvent, MayEnd, SeeksOnBehind, SeeksOnGiven, event_ending, kept_behind, try_ending};
 ghost use Rattle.mg_change.specs.StreamView.{IsOwnPlace, IsPlaced, IsSavedPlace, KeepsOwn, changes_of, empty_place, is_lent, place_by, returned, token_lying, with_token};
 
-use super::{Changes, Phase, TokenPlace};
+use super::{Changes, Phase};
 use crate::counts::Counts;
 use crate::event_poll::{EventPoll, Stepped};
 use mg_bson::{RawDocument, RawDocumentBuf};
@@ -18,6 +18,7 @@ use mg_cursor::{AdvanceResult, BatchBuffer, TryPoll};
 use mg_link::{Error, ErrorKind, plain};
 use mg_ops::ChangeStreamAggregate;
 use mg_options::{ResumeToken, TokenRef};
+use mg_steps::{TokenPlace, place_behind, place_empty};
 use std::alloc::Global;
 use std::mem;
 
@@ -42,10 +43,7 @@ impl Changes {
     fn place_empty(&self) -> TokenPlace
         ensures { result ≡ empty_place self.now.token (client_of self.now.batches).token }
     {
-        if self.batches.token().is_some() {
-            return TokenPlace::Batch;
-        }
-        self.token
+        place_empty(self.token, self.batches.token().is_some())
     }
 
     // Lends the next event.
@@ -182,13 +180,7 @@ impl Changes {
     fn place_behind(&self) -> TokenPlace
         ensures { result ≡ place_by (behind_of self.now.buffer) (client_of self.now.batches).token }
     {
-        if !self.buffer.is_last() {
-            return TokenPlace::Event;
-        }
-        if self.batches.token().is_some() {
-            return TokenPlace::Batch;
-        }
-        TokenPlace::Event
+        place_behind(self.buffer.is_last(), self.batches.token().is_some())
     }
 
     // The copied token of the event that was given is kept, where the stream's lies in the event.

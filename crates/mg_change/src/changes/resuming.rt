@@ -8,7 +8,7 @@ ghost use Rattle.mg_cursor.specs.Closing.{IsNotAsking, closing_ticket};
 ghost use Rattle.mg_cursor.specs.Seeking.{one_if, times};
 ghost use Rattle.mg_cursor.specs.View.{client_of};
 ghost use Rattle.mg_change.specs.ClientStreams.{IsHolding, owes, renewed, stream_ticket};
-ghost use Rattle.mg_change.specs.Steps.{ClosesOne, DoesStep, HearsClosing, HearsResumption, LooksAt, ReadsResumption, RunsResumption, replaced_by};
+ghost use Rattle.mg_change.specs.Steps.{ClosesOne, DoesStep, HearsClosing, HearsResumption, Leads, LooksAt, ReadsResumption, RunsResumption, replaced_by};
 ghost use Rattle.mg_change.specs.StreamCalls.{Falls, stepped_ending, steps_left};
 ghost use Rattle.mg_change.specs.StreamView.{IsOwnPlace, IsPlaced, IsSavedPlace, changes_of, doing_of};
 
@@ -17,10 +17,11 @@ use crate::commands::resume;
 use crate::event_poll::Stepped;
 use crate::opens::tell;
 use mg_bson::RawDocumentBuf;
-use mg_cursor::{Batches, Closing, RawBatch, TryPoll, is_memory};
+use mg_cursor::{Batches, Closing, RawBatch, TryPoll};
 use mg_exec::Exec;
 use mg_link::{Action, ClientSessionHandle, Error, Link, Step};
 use mg_ops::{CursorSpecification, Operation};
+use mg_steps::{AfterFailure, StreamCommand, after_failure, fault_of};
 use std::mem;
 
 impl Changes {
@@ -49,7 +50,7 @@ impl Changes {
             handle.asked(),
         ) {
             Ok(exec) => self.wait_for_resumption(handle, link, exec),
-            Err(error) => self.owe(error),
+            Err(error) => self.fail_resumption(error),
         }
     }
 
@@ -93,7 +94,7 @@ impl Changes {
                 Stepped::Gives(TryPoll::Pending)
             }
             Step::Done(reply) => self.read(reply),
-            Step::Failed(error) => self.owe(error),
+            Step::Failed(error) => self.fail_resumption(error),
         }
     }
 
@@ -111,7 +112,7 @@ impl Changes {
                 self.replace(opened);
                 Stepped::Goes
             }
-            Err(error) => self.owe(error),
+            Err(error) => self.fail_resumption(error),
         }
     }
 
@@ -149,15 +150,12 @@ impl Changes {
         }
     }
 
-    // The closing failed. Only want of memory is answered.
+    // The closing failed.
     fn pass(&mut self, error: Error) -> Stepped
         ensures hears { HearsClosing (changes_of self.old) (Step.Failed error) (changes_of self.new) result }
         ensures place { self.new.token ≡ self.old.token }
     {
-        if is_memory(&error) {
-            return self.owe(error);
-        }
-        self.go_to_batch()
+        self.lead(StreamCommand::KillCursors, error)
     }
 
     // The first batch of the resumption is next.
@@ -205,8 +203,33 @@ impl Changes {
         }
     }
 
+    // The aggregate is not built, or it failed, or its reply is malformed: the resumption is owed still.
+    fn fail_resumption(&mut self, error: Error) -> Stepped
+        ensures phase { changes_of self.new ≡ record (changes_of self.old) { doing = owes } }
+        ensures fails { result ≡ Stepped.Gives (TryPoll.Failed error) }
+        ensures place { self.new.token ≡ self.old.token }
+    {
+        self.lead(StreamCommand::Aggregate, error)
+    }
+
+    // What the stream does after this command of it failed.
+    pub(super) fn lead(&mut self, command: StreamCommand, error: Error) -> Stepped
+        ensures leads { Leads command (changes_of self.old) error (changes_of self.new) result }
+        ensures place { self.new.token ≡ self.old.token }
+    {
+        match after_failure(command, fault_of(&error)) {
+            AfterFailure::Resumes => {
+                self.enter(Phase::Owes);
+                Stepped::Goes
+            }
+            AfterFailure::Owes => self.owe(error),
+            AfterFailure::Fails => Stepped::Gives(TryPoll::Failed(error)),
+            AfterFailure::PassesOver => self.go_to_batch(),
+        }
+    }
+
     // The call fails, and a resumption is owed.
-    pub(super) fn owe(&mut self, error: Error) -> Stepped
+    fn owe(&mut self, error: Error) -> Stepped
         ensures phase { changes_of self.new ≡ record (changes_of self.old) { doing = owes } }
         ensures fails { result ≡ Stepped.Gives (TryPoll.Failed error) }
         ensures place { self.new.token ≡ self.old.token }

@@ -7,7 +7,7 @@ use Rattle.mg_change.specs.ClientStreams.{IsSaved, token_known}
 use Rattle.mg_change.specs.ClosingStreams.{IsSoundClosing, closed_stream}
 use Rattle.mg_change.specs.StreamView.{changes_of, is_lent, known_at, token_lying}
 use Rattle.mg_change.specs.declared.changes.Changes.{Changes}
-use Rattle.mg_change.specs.declared.changes.TokenPlace.{TokenPlace}
+use Rattle.mg_steps.specs.declared.token.TokenPlace.{TokenPlace}
 use Rattle.mg_change.proofs.Closed.{closed_sound}
 use Rattle.mg_change.proofs.Parts.{closed_token}
 use Rattle.mg_change.proofs.changes.Changes.close.Goals as goal

@@ -30,7 +30,7 @@ pub returns-in-Done-clause-hears : goal.returns-in-Done-clause-hears
 returns-in-Done-clause-hears c = subst (λ (came : Step Sending (List ℕ)). HearsResumption (changes_of c.args.self.now) came (changes_of c.read.new.self) c.read.result) (sym c.in-Done.is) c.read.ensures.reads
 
 pub returns-in-Failed-clause-hears : goal.returns-in-Failed-clause-hears
-returns-in-Failed-clause-hears c = subst (λ (came : Step Sending (List ℕ)). HearsResumption (changes_of c.args.self.now) came (changes_of c.owe.new.self) c.owe.result) (sym c.in-Failed.is) (c.owe.ensures.phase, c.owe.ensures.fails)
+returns-in-Failed-clause-hears c = subst (λ (came : Step Sending (List ℕ)). HearsResumption (changes_of c.args.self.now) came (changes_of c.fail_resumption.new.self) c.fail_resumption.result) (sym c.in-Failed.is) (c.fail_resumption.ensures.phase, c.fail_resumption.ensures.fails)
 
 pub returns-in-Failed-clause-falls : goal.returns-in-Failed-clause-falls
-returns-in-Failed-clause-falls c = owing_falls c.owe.result c.in-Failed.error 2 (steps_left (doing_of c.owe.new.self.phase)) c.owe.ensures.fails
+returns-in-Failed-clause-falls c = owing_falls c.fail_resumption.result c.in-Failed.error 2 (steps_left (doing_of c.fail_resumption.new.self.phase)) c.fail_resumption.ensures.fails

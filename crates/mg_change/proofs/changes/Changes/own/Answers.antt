@@ -2,7 +2,7 @@ use Rattle.std.proofs.Common.{sym, ap, ◌∙◌, subst}
 use Rattle.mg_cursor.specs.View.{client_of, current_of}
 use Rattle.mg_change.specs.ClientStreams.{token_known}
 use Rattle.mg_change.specs.StreamView.{IsOwnPlace, is_lent, token_lying}
-use Rattle.mg_change.specs.declared.changes.TokenPlace.{TokenPlace}
+use Rattle.mg_steps.specs.declared.token.TokenPlace.{TokenPlace}
 use Rattle.mg_change.proofs.Linking.{own_saved, placed_saved, saved_place}
 use Rattle.mg_change.proofs.changes.Changes.own.Goals as goal
 

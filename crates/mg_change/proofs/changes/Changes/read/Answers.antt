@@ -25,7 +25,7 @@ pub returns-in-Ok-clause-place : goal.returns-in-Ok-clause-place
 returns-in-Ok-clause-place c = c.replace.ensures.place
 
 pub returns-in-Err-clause-reads : goal.returns-in-Err-clause-reads
-returns-in-Err-clause-reads c = broke c.in-Err.error c.in-Err.ensures.err c.owe.ensures.phase c.owe.ensures.fails
+returns-in-Err-clause-reads c = broke c.in-Err.error c.in-Err.ensures.err c.fail_resumption.ensures.phase c.fail_resumption.ensures.fails
 
 pub returns-in-Err-clause-falls : goal.returns-in-Err-clause-falls
-returns-in-Err-clause-falls c = owing_falls c.owe.result c.in-Err.error 2 (steps_left (doing_of c.owe.new.self.phase)) c.owe.ensures.fails
+returns-in-Err-clause-falls c = owing_falls c.fail_resumption.result c.in-Err.error 2 (steps_left (doing_of c.fail_resumption.new.self.phase)) c.fail_resumption.ensures.fails

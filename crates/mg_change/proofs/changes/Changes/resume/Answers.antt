@@ -62,16 +62,16 @@ returns-in-Ok-clause-falls g c = falls_sooner c.wait_for_resumption.result (step
 
 pub returns-in-Err-clause-keeps : goal.returns-in-Err-clause-keeps
 returns-in-Err-clause-keeps g c =
-    owing_keeps (moment (g.L.Link.awaited c.args.link.now) (g.L.Link.log c.args.link.now) (g.L.Link.faults c.args.link.now) (g.L.Link.pends c.args.link.now) (g.L.Link.wire c.args.link.now) (g.L.Link.prompt c.args.link.now)) (changes_of c.args.self.now) (changes_of c.owe.new.self) c.owe.result c.in-Err.error (unresumed_not_io c.args.self.now.aggregate _ (option_copied c.asked.result) c.in-Err.error c.in-Err.ensures.fails) c.owe.ensures.phase c.owe.ensures.fails
+    owing_keeps (moment (g.L.Link.awaited c.args.link.now) (g.L.Link.log c.args.link.now) (g.L.Link.faults c.args.link.now) (g.L.Link.pends c.args.link.now) (g.L.Link.wire c.args.link.now) (g.L.Link.prompt c.args.link.now)) (changes_of c.args.self.now) (changes_of c.fail_resumption.new.self) c.fail_resumption.result c.in-Err.error (unresumed_not_io c.args.self.now.aggregate _ (option_copied c.asked.result) c.in-Err.error c.in-Err.ensures.fails) c.fail_resumption.ensures.phase c.fail_resumption.ensures.fails
 
 pub returns-in-Err-clause-does : goal.returns-in-Err-clause-does
 returns-in-Err-clause-does g c =
     let fits : SFits w32 c.wire_version.result = search rules in (
       false,
       not_resumed refl c.in-Err.error (fails_so ((changes_of c.args.self.now).aggregate) c.args.self.now.aggregate (g.L.Link.wire c.args.link.now) _ (g.H.ClientSessionHandle.asked c.args.handle.now) (option_copied c.asked.result) c.in-Err.error (aggregate_saved c.args.self.now.token c.args.self.now.aggregate (current_of c.args.self.now.buffer) (client_of c.args.self.now.batches).token c.requires.saved) (to_z-of_z w32 c.wire_version.result fits ∙ c.wire_version.ensures) c.asked.ensures c.in-Err.ensures.fails)
-          (record { rest = λ n. refl; log_same = refl }) refl c.owe.ensures.phase c.owe.ensures.fails,
+          (record { rest = λ n. refl; log_same = refl }) refl c.fail_resumption.ensures.phase c.fail_resumption.ensures.fails,
       refl,
     )
 
 pub returns-in-Err-clause-falls : goal.returns-in-Err-clause-falls
-returns-in-Err-clause-falls g c = owing_falls c.owe.result c.in-Err.error 3 (steps_left (doing_of c.owe.new.self.phase)) c.owe.ensures.fails
+returns-in-Err-clause-falls g c = owing_falls c.fail_resumption.result c.in-Err.error 3 (steps_left (doing_of c.fail_resumption.new.self.phase)) c.fail_resumption.ensures.fails

@@ -1,5 +1,5 @@
 use Rattle.std.proofs.Common.{refl}
-use Rattle.mg_change.specs.declared.changes.TokenPlace.TheVariants as place
+use Rattle.mg_steps.specs.declared.token.TokenPlace.TheVariants as place
 use Rattle.mg_change.proofs.Remaining.{saved_handed}
 use Rattle.mg_change.proofs.closing.Remains.forget.Goals as goal
 

@@ -4,7 +4,7 @@ use Rattle.mg_bson.specs.Tree.{Tree}
 use Rattle.mg_cursor.specs.View.{client_of, current_of}
 use Rattle.mg_change.specs.ClientStreams.{token_known}
 use Rattle.mg_change.specs.StreamView.{token_lying}
-use Rattle.mg_change.specs.declared.changes.TokenPlace.{TokenPlace}
+use Rattle.mg_steps.specs.declared.token.TokenPlace.{TokenPlace}
 use Rattle.mg_change.proofs.Remaining.{saved_handed}
 use Rattle.mg_change.proofs.closing.Remains.hand_over.Goals as goal
 

@@ -2,7 +2,7 @@ use Rattle.std.proofs.Common.{sym, ap, ◌∙◌}
 use Rattle.mg_cursor.specs.View.{client_of, current_of}
 use Rattle.mg_change.specs.ClientStreams.{token_known}
 use Rattle.mg_change.specs.StreamView.{token_lying}
-use Rattle.mg_change.specs.declared.changes.TokenPlace.{TokenPlace}
+use Rattle.mg_steps.specs.declared.token.TokenPlace.{TokenPlace}
 use Rattle.mg_change.proofs.closing.Remains.known_token.Goals as goal
 
 pub returns-in-Saved : goal.returns-in-Saved

@@ -1,0 +1,4 @@
+pub mod Cursors
+pub mod Failures
+pub mod Resuming
+pub mod Token
