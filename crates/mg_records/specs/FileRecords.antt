@@ -1,6 +1,5 @@
 -- What the files collection of a bucket holds (GridFS specification, "files collection documents").
-use Rattle.std.specs.Prelude.{ℕ, ℤ, ◌%◌, ◌^◌, ◌==◌, ◌&&◌, not, suc, ltb, List, Option, Some, None, option_map, Result, Ok, Err, codes, string_bytes, if◌then◌else◌}
-use Rattle.std.specs.Int.{div_ceil}
+use Rattle.std.specs.Prelude.{ℕ, ℤ, ◌==◌, List, Option, Some, None, option_map, Result, Ok, Err, codes, string_bytes, if◌then◌else◌}
 use Rattle.mg_bson.specs.Tree.{Tree, Fields}
 use Rattle.mg_bson.specs.Find.{as_date_time, as_document, as_int32, as_string}
 use Rattle.mg_bson.specs.Reading.{◌>>=◌}
@@ -58,29 +57,3 @@ with_chunks (Some f) = if f.chunk_size == 0 then Err malformed.ChunkSizeZero els
 -- the record of a file that a document stands for
 abbrev pub file_record_of : Fields → Result FileRecord Malformed
 file_record_of d = with_chunks (file_fields d)
-
--- ---- the chunks of a file (GridFS specification, "chunks collection documents")
-
--- how many chunks hold so many bytes: each is full but the last, which holds the rest
-abbrev pub chunk_count : ℕ → ℕ → ℕ
-chunk_count length size = div_ceil length size
-
--- how many bytes the chunk of this number has: the rest in the last one, where a rest is left, and else the full size
-abbrev pub chunk_length : ℕ → ℕ → ℕ → ℕ
-chunk_length length size n = if suc n == chunk_count length size && not (length % size == 0) then length % size else size
-
--- a number of chunks that a u32 counts
-abbrev pub counted : ℕ → Result ℕ Malformed
-counted n = if ltb n (2 ^ 32) then Ok n else Err malformed.TooManyChunks
-
--- how many chunks a file has, or why its sizes say none
-abbrev pub chunk_count_of : ℕ → ℕ → Result ℕ Malformed
-chunk_count_of length size = if size == 0 then Err malformed.ChunkSizeZero else counted (chunk_count length size)
-
-abbrev pub where_counted : Result ℕ Malformed → ℕ → Result ℕ Malformed
-where_counted (Ok count) length = Ok length
-where_counted (Err m) length = Err m
-
--- how many bytes the chunk of this number has, or why the sizes of its file say none
-abbrev pub chunk_length_of : ℕ → ℕ → ℕ → Result ℕ Malformed
-chunk_length_of length size n = where_counted (chunk_count_of length size) (chunk_length length size n)

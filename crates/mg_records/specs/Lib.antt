@@ -1,3 +1,4 @@
+pub mod Families
 pub mod Records
 pub mod Conversions
 pub mod EventWords

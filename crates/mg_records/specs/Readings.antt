@@ -8,6 +8,7 @@ use Rattle.mg_link.specs.declared.error.Error.{Error}
 use Rattle.mg_link.specs.declared.error.ErrorKind.TheVariants as kind
 use Rattle.mg_link.specs.declared.error.Malformed.{Malformed}
 use Rattle.mg_link.specs.declared.error.Malformed.TheVariants as malformed
+use Rattle.mg_chunks.specs.Broken.{Breaks, broken}
 use Rattle.mg_records.specs.declared.fault.Fault.{Fault}
 use Rattle.mg_records.specs.declared.fault.Fault.TheVariants as fault
 
@@ -54,15 +55,11 @@ Gives view (Err e) read = Fails e read
 
 abbrev pub fault_error : Fault → Error
 fault_error fault.Memory = plain kind.OutOfMemory
-fault_error fault.Broken = plain (kind.InvalidResponse malformed.BadRecord)
+fault_error fault.Broken = broken malformed.BadRecord
 
 -- the record, or else a field is missing or of another kind
 abbrev pub recorded : {Y : Type 0} → Option Y → Result Y Malformed
 recorded read = ok_or read malformed.BadRecord
-
-abbrev pub Breaks : {Y : Type 0} → Result Y Malformed → Error → Type 0
-Breaks (Ok y) e = ⊥
-Breaks (Err m) e = e ≡ plain (kind.InvalidResponse m)
 
 -- why no record was read: memory ran out, or the document is none, for this reason
 abbrev pub FailsToRead : {Y : Type 0} → Result Y Malformed → Error → Type 0

@@ -3,8 +3,7 @@ use Rattle.std.specs.Prelude.{List}
 use Rattle.mg_options.specs.Fields.{Line, ◌⟼◌⨾◌, nothing}
 use Rattle.mg_options.specs.Printing.{millis, value}
 use Rattle.mg_options.specs.Shown.{collation, hint}
-use Rattle.mg_records.specs.declared.count.EstimatedDocumentCountOptions.{EstimatedDocumentCountOptions}
-use Rattle.mg_records.specs.declared.count.DistinctOptions.{DistinctOptions}
+use Rattle.mg_records.specs.Families.{DistinctOptions, EstimatedDocumentCountOptions}
 use Rattle.mg_records.specs.declared.drop_index.DropIndexOptions.{DropIndexOptions}
 
 abbrev pub estimated_document_count_lines : EstimatedDocumentCountOptions → List Line

@@ -10,6 +10,7 @@ mod fault;
 mod file_record;
 mod find_and_modify;
 pub mod laws;
+mod marks;
 mod read_raw;
 mod specifications;
 mod update;
@@ -17,14 +18,16 @@ mod update_description;
 mod value;
 
 pub use change_event::{ChangeNamespace, ChangeStreamEvent};
-pub use count::{CountOptions, DistinctOptions, EstimatedDocumentCountOptions};
+pub use count::{CountOptions, DistinctOptions, EstimatedDocumentCountOptions, Summary};
 pub use drop_index::DropIndexOptions;
 pub use event_words::{ChangeNamespaceType, OperationType};
-pub use file_record::{FilesCollectionDocument, last_number};
+pub use file_record::FilesCollectionDocument;
 pub use find_and_modify::{
-    FindOneAndDeleteOptions, FindOneAndReplaceOptions, FindOneAndUpdateOptions,
+    FindOneAnd, FindOneAndDeleteOptions, FindOneAndReplaceOptions, FindOneAndUpdateOptions,
 };
+pub use marks::{Count, Deletion, Distinct, Estimate, Looking, Modification, Replacement, Writing};
+pub use mg_chunks::last_number;
 pub use read_raw::ReadRaw;
 pub use specifications::{CollectionSpecification, IndexModel};
-pub use update::{ReplaceOptions, UpdateOptions};
+pub use update::{ReplaceOptions, UpdateOf, UpdateOptions};
 pub use update_description::{TruncatedArray, UpdateDescription};
