@@ -24,7 +24,8 @@ use Rattle.mg_ops.specs.Naming.{IsNamed}
 use Rattle.mg_ops.proofs.Asking.{asks_to_insert}
 use Rattle.mg_ops.proofs.AskingMore.{asks_to_delete}
 use Rattle.mg_records.specs.FileRecords.{file_record_of}
-use Rattle.mg_gridfs.specs.Commands.{insert_options, of_file}
+use Rattle.mg_chunks.specs.Filters.{of_file}
+use Rattle.mg_gridfs.specs.Commands.{insert_options}
 use Rattle.mg_gridfs.specs.Uploads.{Aim, Ending, record_of}
 use Rattle.mg_players.specs.Causes.{Course}
 use Rattle.mg_players.specs.Files.{OthersLeave, ReadsOther}

@@ -33,7 +33,7 @@ use Rattle.mg_script.specs.declared.outcome.Ended.TheVariants as ended
 use Rattle.mg_script.specs.declared.outcome.Outcome.{Outcome}
 use Rattle.mg_script.specs.declared.outcome.Outcome.TheVariants as outcome
 use Rattle.mg_script.specs.declared.outcome.Played.{Played}
-use Rattle.mg_script.specs.declared.outcome.Turned.{Turned}
+use Rattle.mg_turns.specs.declared.turned.Turned.{Turned}
 use Rattle.mg_jobs.proofs.Behind.{removed_before}
 use Rattle.mg_jobs.proofs.PutLater.{removes_once}
 use Rattle.mg_jobs.proofs.RecordMade.{inserted_before}

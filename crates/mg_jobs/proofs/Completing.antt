@@ -56,7 +56,7 @@ use Rattle.mg_change.specs.OpeningCauses.{OpeningFails}
 use Rattle.mg_change.specs.OpeningCauses as openings
 use Rattle.mg_players.specs.Causes.{AllCaused, AllSentIn, Answered, CloseCaused, Closed, Course, FollowCaused, GetCaused, InsertEnds, OpenCaused, OpenFailed, OutcomeCaused, PutEnds, SentIn, course, sent_at}
 use Rattle.mg_jobs.specs.Completing.{AllWell, AnswerWell, AnswersAreWell, AnswersWell, AreFresh, CallsWell, EndsWell, Excuses, FindsNothing, FitsLimits, FollowWell, GetWell, IsExcused, IsExcusedGet, IsExcusedInsert, IsMemory, IsShort, IsTooLarge, JobWell, NoneLeft, Nothings, OutcomeEnds, OutcomeFits, OutcomeGot, OutcomeWell, SendFresh, finds_none, is_over, own_excuses, takes_again, takes_first}
-use Rattle.mg_players.specs.Counts.{Faultless, LosesNothing}
+use Rattle.mg_turns.specs.Counts.{Faultless, LosesNothing}
 use Rattle.mg_players.specs.Drawing.{as_sent, supply_of}
 use Rattle.mg_players.specs.Follows.{IsArgsFor, poll_of}
 use Rattle.mg_players.specs.Gets.{GetTask, IsGetCommand, get_of}
@@ -74,7 +74,7 @@ use Rattle.mg_script.specs.declared.outcome.Ended.{Ended}
 use Rattle.mg_script.specs.declared.outcome.Ended.TheVariants as ended
 use Rattle.mg_script.specs.declared.outcome.Outcome.{Outcome}
 use Rattle.mg_script.specs.declared.outcome.Played.{Played}
-use Rattle.mg_script.specs.declared.outcome.Turned.{Turned}
+use Rattle.mg_turns.specs.declared.turned.Turned.{Turned}
 use Rattle.mg_players.proofs.Drawing.{played_as_sent}
 use Rattle.mg_players.proofs.Batches.{breaks_not, events_are, tells_not}
 use Rattle.mg_jobs.proofs.GetWell.{get_well}

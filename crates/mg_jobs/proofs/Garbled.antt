@@ -45,7 +45,7 @@ use Rattle.mg_script.specs.declared.outcome.Ended.TheVariants as ended
 use Rattle.mg_script.specs.declared.outcome.Outcome.{Outcome}
 use Rattle.mg_script.specs.declared.outcome.Outcome.TheVariants as outcome
 use Rattle.mg_script.specs.declared.outcome.Played.{Played}
-use Rattle.mg_script.specs.declared.outcome.Turned.{Turned}
+use Rattle.mg_turns.specs.declared.turned.Turned.{Turned}
 use Rattle.mg_jobs.specs.Grammar.{AllNeverGarbled, NeverAnswers, NeverEnds, NeverGarbled, SaysGarbled}
 use Rattle.mg_jobs.proofs.GetsRead.{get_reads}
 use Rattle.mg_jobs.proofs.Identified.{IsHonest, StandsWell, called_stands, heard_more, honest_over, opened_well, replied_well, resumed_brings}

@@ -38,8 +38,9 @@ use Rattle.mg_ops.proofs.Asking.{asks_for_more}
 use Rattle.mg_cursor.specs.Causes.{TellsNoCursor}
 use Rattle.mg_cursor.specs.Client.{ClientCursor, get_more}
 use Rattle.mg_cursor.specs.Polling.{CannotAsk}
-use Rattle.mg_records.specs.FileRecords.{FileRecord, chunk_count, chunk_count_of, counted, file_record_of}
-use Rattle.mg_records.specs.Readings.{Breaks}
+use Rattle.mg_chunks.specs.Sizes.{chunk_count, chunk_count_of, counted}
+use Rattle.mg_records.specs.FileRecords.{FileRecord, file_record_of}
+use Rattle.mg_chunks.specs.Broken.{Breaks}
 use Rattle.mg_gridfs.specs.Commands.{found_lines, listed_lines}
 use Rattle.mg_gridfs.specs.Downloaded.{IsPlainAt, chunks_query, record_query}
 use Rattle.mg_gridfs.specs.Findings.{BreaksFirst, BreaksRecord, GivesFirst, ReadsRecord, in_batch, is_found, no_cursor, no_document, no_record, none_found}
@@ -49,7 +50,7 @@ use Rattle.mg_gridfs.proofs.OpeningKnown.{found_asks}
 use Rattle.mg_players.specs.Causes as causes
 use Rattle.mg_players.specs.Causes.{AllSentIn, AreSentIn, Course, GetCaused, GetFails, SentIn, sent_at}
 use Rattle.mg_jobs.specs.Completing.{AnswersWell, EndsWell, IsExcusedGet, StandsWhole, finds_record, gets_more, lists_chunks}
-use Rattle.mg_players.specs.Counts.{Faultless}
+use Rattle.mg_turns.specs.Counts.{Faultless}
 use Rattle.mg_players.specs.Files.{IsStepOf}
 use Rattle.mg_players.specs.Buckets.{plain_bucket}
 use Rattle.mg_players.specs.Gets.{GetTask, IsGetCommand, chunks_find, record_find}

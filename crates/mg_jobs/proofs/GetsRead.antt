@@ -22,10 +22,12 @@ use Rattle.mg_link.specs.declared.error.Malformed.TheVariants as malformed
 use Rattle.mg_options.specs.Fields.{Line, Refuses, first_unfit}
 use Rattle.mg_cursor.specs.Causes.{TellsNoCursor}
 use Rattle.mg_cursor.specs.Client.{get_more}
-use Rattle.mg_records.specs.FileRecords.{FileRecord, chunk_count_of, chunk_length_of, file_record_of}
-use Rattle.mg_records.specs.Readings.{Breaks}
+use Rattle.mg_chunks.specs.Sizes.{chunk_count_of, chunk_length_of}
+use Rattle.mg_records.specs.FileRecords.{FileRecord, file_record_of}
+use Rattle.mg_chunks.specs.Broken.{Breaks}
 use Rattle.mg_gridfs.specs.Commands.{CannotSend, found_lines, listed_lines}
-use Rattle.mg_gridfs.specs.Downloads.{and_then, data_of, judged, missing_chunk, needed_as, numbered_as, sized_as, wrong_size}
+use Rattle.mg_chunks.specs.Chunks.{and_then, data_of, judged, missing_chunk, needed_as, numbered_as, sized_as, wrong_size}
+use Rattle.mg_gridfs.specs.Downloads.{sizes_of}
 use Rattle.mg_gridfs.specs.Findings.{BreaksRecord, in_batch, no_cursor, no_document, no_record}
 use Rattle.mg_gridfs.specs.ReadCauses as files
 use Rattle.mg_gridfs.specs.ReadCauses.{TellsNoRecord}
@@ -91,10 +93,10 @@ size_reads : (n : ℕ) (bytes : List ℕ) (expected : Result ℕ Malformed) → 
 size_reads n bytes (Ok expected) = if_reads (length bytes == expected) (Ok bytes) (Err (wrong_size n (length bytes) expected)) tt (λ none. none)
 size_reads n bytes (Err how) = λ none. none
 
-number_reads : (f : FileRecord) (n : ℕ) (number : ℤ) (bytes : List ℕ) → Reads (numbered_as f n number bytes)
+number_reads : (f : FileRecord) (n : ℕ) (number : ℤ) (bytes : List ℕ) → Reads (numbered_as (sizes_of f) n number bytes)
 number_reads f n number bytes = if_reads (int_eq number (pos n)) (sized_as n bytes (chunk_length_of f.length f.chunk_size n)) (Err (missing_chunk n)) (size_reads n bytes (chunk_length_of f.length f.chunk_size n)) (λ none. none)
 
-chunk_reads : (f : FileRecord) (n : ℕ) (d : Fields) → Reads (judged f n d)
+chunk_reads : (f : FileRecord) (n : ℕ) (d : Fields) → Reads (judged (sizes_of f) n d)
 chunk_reads f n d =
     then_reads (needed_as malformed.BadChunk (number_at (codes "n") d)) _ (needed_reads malformed.BadChunk (number_at (codes "n") d)) (λ number. then_reads (needed_as malformed.BadChunk (data_of d)) _ (needed_reads malformed.BadChunk (data_of d)) (λ bytes. number_reads f n number bytes))
 

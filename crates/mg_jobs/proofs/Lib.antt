@@ -1,6 +1,6 @@
 pub mod Endings
 pub mod Statuses
-pub mod Tallies
+pub mod Noted
 pub mod Orders
 pub mod GetWell
 pub mod Appended

@@ -18,7 +18,7 @@ use Rattle.mg_players.specs.Owned.{AllOwn, NamesNoOthers, OwnsItsOwn}
 use Rattle.mg_players.proofs.Newest.{started_in}
 use Rattle.mg_players.proofs.Telling.{in_first, is_since, since_is}
 use Rattle.mg_players.proofs.Whole.{places_other, places_own}
-use Rattle.mg_script.specs.declared.outcome.Turned.{Turned}
+use Rattle.mg_turns.specs.declared.turned.Turned.{Turned}
 use Rattle.mg_jobs.proofs.PlacesRise.{of_cond, of_either}
 use Rattle.mg_jobs.proofs.StepsAt.{opened_once, placed_once}
 

@@ -5,7 +5,7 @@ use Rattle.std.proofs.lemmas.Bool.{cases_Bool, eqb-true}
 use Rattle.mg_server.specs.Owner.{IsOf}
 use Rattle.mg_players.specs.Causes.{Course, places_from, places_in, places_of}
 use Rattle.mg_players.specs.Progress.{one_unless, pended_since, pends_last, turns_done}
-use Rattle.mg_script.specs.declared.outcome.Turned.{Turned}
+use Rattle.mg_turns.specs.declared.turned.Turned.{Turned}
 
 -- each is above the one before, and none is below this
 abbrev pub Rise : ℕ → List ℕ → Type 0

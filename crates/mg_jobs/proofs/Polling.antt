@@ -8,17 +8,17 @@ use Rattle.mg_link.specs.Log.{Call}
 use Rattle.mg_link.specs.declared.error.Error.{Error}
 use Rattle.mg_server.proofs.Owners.{same_some}
 use Rattle.mg_players.specs.Causes.{AllPollOwn, IsPolledIn, in_turn, before_it, PollOwnFrom, PollsOwn, SentIn, SentNoneBehind, course}
-use Rattle.mg_players.specs.Counts.{IsNewest, NewestAt, sent_last, was_held, PolledBy, StartedBy, one_if}
+use Rattle.mg_turns.specs.Counts.{IsNewest, NewestAt, sent_last, was_held, PolledBy, StartedBy, one_if}
 use Rattle.mg_players.specs.Drawing.{HaveDrawn, first_id}
 use Rattle.mg_players.specs.Puts.{Supply}
 use Rattle.mg_players.specs.Progress.{AllAt, IsAt, calls_of, pends_last, turns_done}
 use Rattle.mg_players.specs.Telling.{AllTell, JobTold}
 use Rattle.mg_script.specs.Plan.{Task}
 use Rattle.mg_script.specs.declared.outcome.Played.{Played}
-use Rattle.mg_script.specs.declared.outcome.Turned.{Turned}
+use Rattle.mg_turns.specs.declared.turned.Turned.{Turned}
 use Rattle.mg_players.specs.declared.player.Player.{Player}
 use Rattle.mg_players.proofs.Knowing.{get_length, one_more, take_next}
-use Rattle.mg_players.proofs.OwnTickets.{polled_map}
+use Rattle.mg_turns.proofs.OwnTickets.{polled_map}
 use Rattle.mg_players.specs.Playing.{job_ticket}
 use Rattle.mg_jobs.proofs.Waiting.{job_own, job_pended}
 

@@ -14,7 +14,7 @@ use Rattle.mg_jobs.specs.Completing.{AnswersWell, AnswersWellIn, NoneRefused, ow
 use Rattle.mg_jobs.proofs.Created.{CreationsMeet, prompt_where_taken}
 use Rattle.mg_players.proofs.Newest.{started_in}
 use Rattle.mg_players.proofs.Telling.{from_is, in_first, in_second}
-use Rattle.mg_script.specs.declared.outcome.Turned.{Turned}
+use Rattle.mg_turns.specs.declared.turned.Turned.{Turned}
 
 places_hold : (i : ℕ) (before : List ℕ) (noted : List Turned) (after : List ℕ) (note : Turned) (later : List Turned) (at place : ℕ) → length noted ≡ length before → at + started_in noted ≤ place → place < at + started_in noted + note.started → IsOf (places_in i (before ++ i ∷ after) (noted ++ note ∷ later) at) place
 places_hold i [] [] after note later at place abreast low high =

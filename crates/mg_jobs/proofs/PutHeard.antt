@@ -39,7 +39,8 @@ use Rattle.mg_cursor.specs.Client.{ClientCursor, get_more}
 use Rattle.mg_gridfs.specs.Buckets.{ClientBucket}
 use Rattle.mg_gridfs.specs.Causes.{ListsFailure, ListsFirst, ListsFor}
 use Rattle.mg_gridfs.specs.Checks.{namespace_exists}
-use Rattle.mg_gridfs.specs.Commands.{any_lines, chunks_lines, creation_lines, deletion_lines, index_lines, listing_lines, of_file, record_lines}
+use Rattle.mg_chunks.specs.Filters.{of_file}
+use Rattle.mg_gridfs.specs.Commands.{any_lines, chunks_lines, creation_lines, deletion_lines, index_lines, listing_lines, record_lines}
 use Rattle.mg_gridfs.specs.Cursors.{indexes_query}
 use Rattle.mg_gridfs.specs.Indexes.{keys_of, space_in}
 use Rattle.mg_gridfs.specs.declared.indexes.Place.{Place}

@@ -30,7 +30,8 @@ use Rattle.mg_ops.specs.Naming.{IsNamed}
 use Rattle.mg_ops.specs.declared.cursor_reply.CursorSpecification.{CursorSpecification}
 use Rattle.mg_ops.proofs.Asking.{asks_for_more}
 use Rattle.mg_ops.proofs.Reading.{batch_as, batch_read, named_read}
-use Rattle.mg_records.specs.Readings.{Breaks, FailsToRead, recorded}
+use Rattle.mg_chunks.specs.Broken.{Breaks}
+use Rattle.mg_records.specs.Readings.{FailsToRead, recorded}
 use Rattle.mg_records.specs.Specifications.{index_of}
 use Rattle.mg_cursor.specs.Batches.{BreaksBatch, documents_of}
 use Rattle.mg_cursor.specs.Causes.{HeardMore, MoreFails, TellsNoCursor}

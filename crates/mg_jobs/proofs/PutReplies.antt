@@ -28,7 +28,8 @@ use Rattle.mg_server.proofs.Telling.{created_tells, deleted_tells, indexed_tells
 use Rattle.mg_options.specs.Fields.{fields_in}
 use Rattle.mg_ops.specs.Bodies.{create_body, create_indexes_body, delete_body, find_body, list_indexes_body}
 use Rattle.mg_ops.specs.Plain.{plain_delete, plain_index, plain_indexes}
-use Rattle.mg_gridfs.specs.Commands.{any_options, of_file}
+use Rattle.mg_chunks.specs.Filters.{of_file}
+use Rattle.mg_gridfs.specs.Commands.{any_options}
 use Rattle.mg_gridfs.specs.Cursors.{indexes_query}
 use Rattle.mg_gridfs.specs.Indexes.{keys_of}
 use Rattle.mg_gridfs.specs.declared.indexes.Place.{Place}

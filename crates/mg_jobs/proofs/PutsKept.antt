@@ -19,7 +19,8 @@ use Rattle.mg_link.specs.declared.error.GridFsErrorKind.TheVariants as grid
 use Rattle.mg_server.proofs.Owners.{same_some}
 use Rattle.mg_server.proofs.Pasts.{heard_grows}
 use Rattle.mg_options.specs.Fields.{fields_in}
-use Rattle.mg_records.specs.Readings.{Breaks, FailsToRead, recorded}
+use Rattle.mg_chunks.specs.Broken.{Breaks}
+use Rattle.mg_records.specs.Readings.{FailsToRead, recorded}
 use Rattle.mg_records.specs.Specifications.{index_of}
 use Rattle.mg_cursor.specs.Causes.{MoreFails, TellsNoCursor}
 use Rattle.mg_cursor.specs.Client.{ClientCursor, get_more}

@@ -23,7 +23,8 @@ use Rattle.mg_ops.specs.Cursors.{Cursor as Told_cursor, cursor_of}
 use Rattle.mg_ops.specs.Plain.{plain_find}
 use Rattle.mg_ops.proofs.Reading.{batch_as, batch_read}
 use Rattle.mg_options.specs.Fields.{fields_in}
-use Rattle.mg_gridfs.specs.Commands.{by_id, in_order, of_file}
+use Rattle.mg_chunks.specs.Filters.{of_file}
+use Rattle.mg_gridfs.specs.Commands.{by_id, in_order}
 use Rattle.mg_gridfs.specs.Downloaded.{chunks_query, record_query}
 use Rattle.mg_jobs.specs.Completing.{HasShortNames}
 use Rattle.mg_jobs.proofs.QueryFits.{IsModestBatch, batch_modest, query_small}

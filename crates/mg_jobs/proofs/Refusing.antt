@@ -51,10 +51,10 @@ use Rattle.mg_script.specs.declared.outcome.Answer.{Answer}
 use Rattle.mg_script.specs.declared.outcome.Ended.{Ended}
 use Rattle.mg_script.specs.declared.outcome.Ended.TheVariants as ended
 use Rattle.mg_script.specs.declared.outcome.Outcome.{Outcome}
-use Rattle.mg_script.specs.declared.outcome.Turned.{Turned}
+use Rattle.mg_turns.specs.declared.turned.Turned.{Turned}
 use Rattle.mg_players.specs.Causes.{AllSentIn, Course, FallsAt, FollowCaused, OutcomeCaused, command_at, commands_at, course, places_of}
 use Rattle.mg_jobs.specs.Completing.{AnswersWell, EndsWell, Excuses, FindsNothing, FitsLimits, FollowEndsIn, FollowWell, GetWell, HasShortFiles, HasShortNames, IsMemory, IsThere, JobTaken, JobWell, JobWellIn, MayBegin, NoneRefused, OutcomeEnds, OutcomeEndsIn, PutEndsIn, SendFresh, StandsWhole, own_excuses, own_position, positions_at}
-use Rattle.mg_players.specs.Counts.{StartedBy}
+use Rattle.mg_turns.specs.Counts.{StartedBy}
 use Rattle.mg_players.specs.Drawing.{as_sent, supply_of}
 use Rattle.mg_jobs.specs.Fated.{AreItsSteps}
 use Rattle.mg_players.specs.Follows.{IsArgsFor, options_of, stages_of, start_of}

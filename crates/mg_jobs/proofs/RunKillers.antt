@@ -29,9 +29,9 @@ use Rattle.mg_script.specs.declared.outcome.Ended.{Ended}
 use Rattle.mg_script.specs.declared.outcome.Ended.TheVariants as ended
 use Rattle.mg_script.specs.declared.outcome.Outcome.{Outcome}
 use Rattle.mg_script.specs.declared.outcome.Outcome.TheVariants as outcome
-use Rattle.mg_script.specs.declared.outcome.Turned.{Turned}
+use Rattle.mg_turns.specs.declared.turned.Turned.{Turned}
 use Rattle.mg_players.specs.Causes.{CloseCaused, Course, FallsAt, FollowCaused, OpenCaused, OutcomeCaused, SentIn, at_rest, course, in_call, in_closing, places_of, sent_at}
-use Rattle.mg_players.specs.Counts.{StartedBy}
+use Rattle.mg_turns.specs.Counts.{StartedBy}
 use Rattle.mg_players.specs.Drawing.{as_sent, supply_of}
 use Rattle.mg_players.specs.Follows.{IsArgsFor}
 use Rattle.mg_players.specs.Gets.{GetTask, IsGetCommand, chunks_find, for_chunks, for_more, for_record, get_of, no_manner, record_find}

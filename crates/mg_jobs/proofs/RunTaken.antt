@@ -23,13 +23,13 @@ use Rattle.mg_script.specs.declared.outcome.Ended.{Ended}
 use Rattle.mg_script.specs.declared.outcome.Ended.TheVariants as ended
 use Rattle.mg_script.specs.declared.outcome.Outcome.{Outcome}
 use Rattle.mg_script.specs.declared.outcome.Outcome.TheVariants as outcome
-use Rattle.mg_script.specs.declared.outcome.Turned.{Turned}
+use Rattle.mg_turns.specs.declared.turned.Turned.{Turned}
 use Rattle.mg_script.specs.declared.script.Job.{Job}
 use Rattle.mg_players.specs.Causes.{AllSentIn, Course, FollowCaused, GetCaused, GetStands, InsertEnds, OutcomeCaused, PutEnds, commands_at, course, has_opened, places_of, sent_at}
 use Rattle.mg_jobs.specs.Completing.{EndsWell, HasShortFiles, JobTaken, JobWell, JobWellIn, NoneRefused, SendFresh, own_excuses, positions_at}
 use Rattle.mg_jobs.specs.Own.{IsHeard}
 use Rattle.mg_jobs.specs.PutLimits.{IsExcusedPut, IsValidPut}
-use Rattle.mg_players.specs.Counts.{StartedBy}
+use Rattle.mg_turns.specs.Counts.{StartedBy}
 use Rattle.mg_players.specs.Drawing.{as_sent, first_id, sent_from, supply_of}
 use Rattle.mg_players.specs.Gets.{GetTask, get_of}
 use Rattle.mg_players.specs.Kinds.{OfGet, OfInsert, OfPut}

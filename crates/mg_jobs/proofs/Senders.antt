@@ -20,7 +20,7 @@ use Rattle.mg_store.proofs.Sending.{length-steps}
 use Rattle.mg_jobs.proofs.Mild.{IsMildCommand, IsQuiet, quiet_mild}
 use Rattle.mg_players.specs.Causes.{SentIn}
 use Rattle.mg_players.specs.Progress.{turns_done}
-use Rattle.mg_script.specs.declared.outcome.Turned.{Turned}
+use Rattle.mg_turns.specs.declared.turned.Turned.{Turned}
 
 -- ---- the state before a step
 

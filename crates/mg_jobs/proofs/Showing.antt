@@ -5,7 +5,7 @@ use Rattle.mg_link.specs.Acts.{Tickets}
 use Rattle.mg_server.specs.Calls.{Keeps}
 use Rattle.mg_link.specs.Link.{Awaited, LogTold}
 use Rattle.mg_link.specs.Log.{Call}
-use Rattle.mg_players.specs.Counts.{OthersStay, is_held, shown}
+use Rattle.mg_turns.specs.Counts.{OthersStay, is_held, shown}
 use Rattle.mg_players.specs.Plays.{Moves}
 use Rattle.mg_players.specs.Drawing.{sent_from, supply_from}
 use Rattle.mg_players.specs.Headline.{Turns, task_of}
@@ -19,7 +19,7 @@ use Rattle.mg_server.specs.Owner.{nobody}
 use Rattle.mg_server.proofs.Apart.{onward_refl}
 use Rattle.mg_players.proofs.JobTelling.{job_later}
 use Rattle.mg_players.proofs.Knowing.{same_player}
-use Rattle.mg_players.proofs.OwnTickets.{cases_held, held_is, is_held_so, none_is_not, shown_held, shown_new, shown_out, shown_own}
+use Rattle.mg_turns.proofs.OwnTickets.{cases_held, held_is, is_held_so, none_is_not, shown_held, shown_new, shown_out, shown_own}
 
 -- ---- other tickets, and the same log
 

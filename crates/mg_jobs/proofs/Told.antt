@@ -30,7 +30,7 @@ use Rattle.mg_players.proofs.Later.{opening_awaits_plainly}
 use Rattle.mg_ops.specs.InsertCauses.{InsertWaits}
 use Rattle.mg_ops.proofs.InsertCauses.{insert_waits}
 use Rattle.mg_players.specs.Causes.{AllCaused, AllSentIn, ClosedBy, CloseCaused, Course, FallsAt, FollowCaused, KillsLast, OpenStands, OpenCaused, OpenWaits, OutcomeCaused, SentIn, SentNoneBehind, at_rest, commands_at, course, in_call, in_closing, places_from, places_in, sent_at, sent_since}
-use Rattle.mg_players.specs.Counts.{HoldsNewest, NewestAt, StartedBy}
+use Rattle.mg_turns.specs.Counts.{HoldsNewest, NewestAt, StartedBy}
 use Rattle.mg_ops.specs.Drawn.{AreLater, with_ids}
 use Rattle.mg_players.specs.Drawing.{DrawsAt, HaveDrawn, JobHadTurn, as_sent, drawn_in, first_id, has_turn, sent_from, supply_from, supply_of}
 use Rattle.mg_players.specs.Follows.{Followed, FollowedFrom, HasGiven, IsArgsFor, IsUnfinished, events_of, filter_in, token_at}
@@ -50,7 +50,7 @@ use Rattle.mg_script.specs.declared.outcome.Ended.TheVariants as ended
 use Rattle.mg_script.specs.declared.outcome.Outcome.{Outcome}
 use Rattle.mg_script.specs.declared.outcome.Outcome.TheVariants as outcome
 use Rattle.mg_script.specs.declared.outcome.Played.{Played}
-use Rattle.mg_script.specs.declared.outcome.Turned.{Turned}
+use Rattle.mg_turns.specs.declared.turned.Turned.{Turned}
 use Rattle.mg_players.specs.declared.follow.FollowPlayer.{FollowPlayer}
 use Rattle.mg_players.specs.declared.insert.InsertStage.{InsertStage}
 use Rattle.mg_players.specs.declared.insert.InsertStage.TheVariants as inserts
@@ -72,7 +72,7 @@ use Rattle.mg_jobs.proofs.Filed.{get_filed}
 use Rattle.mg_jobs.proofs.PutFiled.{put_filed}
 use Rattle.mg_players.proofs.JobTelling.{first_tells, job_later, job_of_others, number_at}
 use Rattle.mg_players.proofs.Newest.{newest_other, newest_own, none_sent, started_in}
-use Rattle.mg_players.proofs.OwnTickets.{none_if}
+use Rattle.mg_turns.proofs.OwnTickets.{none_if}
 use Rattle.mg_players.proofs.Sends.{sends_first, sends_other, sends_turn, sent_had}
 use Rattle.mg_players.proofs.Turning.{failed_not_unfinished, follow_followed, unfinished_not_given}
 use Rattle.mg_players.proofs.Whole.{only_now, only_opened, places_other, places_own}

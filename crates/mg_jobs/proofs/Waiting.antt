@@ -36,7 +36,7 @@ use Rattle.mg_players.specs.declared.put.PutStage.TheVariants as puts
 use Rattle.mg_players.specs.Runs.{AreHeld, HeldBy}
 use Rattle.mg_script.specs.Plan.{Task}
 use Rattle.mg_script.specs.declared.outcome.Played.{Played}
-use Rattle.mg_script.specs.declared.outcome.Turned.{Turned}
+use Rattle.mg_turns.specs.declared.turned.Turned.{Turned}
 use Rattle.mg_players.specs.declared.get.GetStage.{GetStage}
 use Rattle.mg_players.specs.declared.get.GetStage.TheVariants as gets
 use Rattle.mg_players.specs.declared.insert.InsertStage.{InsertStage}

@@ -4,9 +4,9 @@ use Rattle.std.specs.List.{sum_by}
 use Rattle.mg_link.specs.Log.{Call}
 use Rattle.mg_server.specs.Owner.{IsOf}
 use Rattle.mg_server.proofs.Owners.{same_some}
-use Rattle.mg_script.specs.declared.outcome.Turned.{Turned}
+use Rattle.mg_turns.specs.declared.turned.Turned.{Turned}
 use Rattle.mg_players.specs.Causes.{Course, SentIn, course, places_of}
-use Rattle.mg_players.specs.Counts.{StartedBy}
+use Rattle.mg_turns.specs.Counts.{StartedBy}
 use Rattle.mg_jobs.proofs.PlacesRise.{one_job}
 use Rattle.mg_jobs.proofs.Positions.{sent_place}
 use Rattle.mg_jobs.proofs.Senders.{turn_of}

@@ -1,10 +1,7 @@
 -- When the program ends with which status, and what it writes then.
-use Rattle.std.specs.Prelude.{◌≡◌, ◌⊎◌, slice_get, ℕ, ◌<◌, ◌≤◌, List, [], ◌∷◌, ◌++◌, length, Bool, true, false, Option, Some, None, Ok, Err, Vec, codes, decimal}
+use Rattle.std.specs.Prelude.{◌≡◌, ◌⊎◌, slice_get, ℕ, List, [], ◌∷◌, ◌++◌, length, true, Option, Some, None, Vec, codes}
 use Rattle.std.specs.declared.alloc.Global.{Global}
-use Rattle.std.specs.Str.{bytes_eq}
-use Rattle.std.specs.Io.KnownBytes.{Consumes, Appends}
 use Rattle.mg_link.specs.Causes.{Rose}
-use Rattle.mg_link.specs.Ends.{ReadWhole, TookFront, longest}
 use Rattle.mg_link.specs.Ids.{counted_id}
 use Rattle.mg_server.specs.History.{IsLegal}
 use Rattle.mg_server.specs.Kept.{IsByRules, state_of_kept, steps_of}
@@ -15,7 +12,7 @@ use Rattle.mg_server.specs.Standing.{Stands}
 use Rattle.mg_players.specs.Blaming.{GetsBehind}
 use Rattle.mg_players.specs.Causes.{AllPollOwn, AllWaitAlone, OutcomeCaused, course}
 use Rattle.mg_jobs.specs.Completing.{AnswersWellIn, JobTaken, JobWell, JobWellIn, NoneRefused}
-use Rattle.mg_players.specs.Counts.{AreNoted, turns_pended}
+use Rattle.mg_turns.specs.Counts.{AreNoted, turns_pended}
 use Rattle.mg_jobs.specs.Fated.{AreItsSteps}
 use Rattle.mg_jobs.specs.Grammar.{NeverGarbled}
 use Rattle.mg_players.specs.Owned.{NamesNoOthers}
@@ -30,51 +27,13 @@ use Rattle.mg_store.specs.InMemory.{AreAsFates, AreKept, pends_in}
 use Rattle.mg_store.specs.Stored.{AreOpen}
 use Rattle.mg_store.specs.declared.fate.Fate.{Fate}
 use Rattle.mg_script.specs.declared.outcome.Outcome.{Outcome}
-use Rattle.mg_script.specs.declared.outcome.Turned.{Turned}
-use Rattle.mg_script.specs.Script.{script_of, missing}
-use Rattle.mg_script.specs.Places.{place_text}
-use Rattle.mg_script.specs.Text.{line, text_of}
-use Rattle.mg_script.specs.declared.fault.Place.{Place}
+use Rattle.mg_turns.specs.declared.turned.Turned.{Turned}
+use Rattle.mg_program.specs.Refusals.{EndingTold, HasJobs, IsRefusalOf, IsScript, ReadScript, RefusedFor, is_run, refusal_status, refusal_text, short_refusal}
+use Rattle.mg_script.specs.Text.{text_of}
 use Rattle.mg_script.specs.declared.outcome.Run.{Run}
 use Rattle.mg_script.specs.declared.script.Script.{Script}
 use Rattle.mg_jobs.specs.declared.program.Ending.{Ending}
 use Rattle.mg_jobs.specs.declared.program.Ending.TheVariants as endings
-
--- the words are just `run`
-abbrev pub is_run : List (List ℕ) → Bool
-is_run [] = false
-is_run (w ∷ []) = bytes_eq w (codes "run")
-is_run (w ∷ v ∷ ws) = false
-
--- ---- what was read
-
--- the bytes were all that was left, and were read to their end
-abbrev pub ReadInput : Option (List ℕ) → Option (List ℕ) → List ℕ → Type 0
-ReadInput old new bytes = ReadWhole old new bytes × (length bytes ≤ longest)
-
--- the input was read to its end, and is no script; its first fault stands at the place
-abbrev pub ReadNoScript : Option (List ℕ) → Option (List ℕ) → Place → Type 0
-ReadNoScript old new p = (bytes : List ℕ) × ReadInput old new bytes × (script_of bytes ≡ Err p)
-
--- more bytes came than a script may have
-abbrev pub ReadTooMuch : Option (List ℕ) → Option (List ℕ) → Type 0
-ReadTooMuch old new = (bytes : List ℕ) × Consumes old new bytes × (longest < length bytes)
-
--- the input was read to its end, and is the script
-abbrev pub ReadScript : Option (List ℕ) → Option (List ℕ) → Plan → Type 0
-ReadScript old new script = (bytes : List ℕ) × ReadInput old new bytes × (script_of bytes ≡ Ok script)
-
--- each number of the order names a job
-abbrev pub HasJobs : Plan → Type 0
-HasJobs script = missing script ≡ None
-
--- this is the first number of the order that names no job
-abbrev pub LacksJob : Plan → ℕ → Type 0
-LacksJob script n = missing script ≡ Some n
-
--- the input was read to its end, and is a script whose order has a number that names no job
-abbrev pub ReadMissing : Option (List ℕ) → Option (List ℕ) → ℕ → Type 0
-ReadMissing old new n = (script : Plan) × ReadScript old new script × LacksJob script n
 
 -- ---- what came of the words and the input
 
@@ -150,59 +109,30 @@ pub record Ran (old new : Option (List ℕ)) (run : Run) : Type 0 where
 
 -- when it comes to each
 abbrev pub Caused : List (List ℕ) → Option (List ℕ) → Option (List ℕ) → ℕ → ℕ → Ending → Type 0
-Caused words old new before now endings.Usage = is_run words ≡ false
-Caused words old new before now endings.ReadFault = (is_run words ≡ true) × Rose before now
-Caused words old new before now endings.TooLong = (is_run words ≡ true) × ReadTooMuch old new
-Caused words old new before now (endings.BadScript p) = (is_run words ≡ true) × ReadNoScript old new p
-Caused words old new before now (endings.NoSuchJob n) = (is_run words ≡ true) × ReadMissing old new n
-Caused words old new before now endings.OutOfMemory = is_run words ≡ true
+Caused words old new before now (endings.Refused refusal) = RefusedFor words old new before now refusal
 Caused words old new before now (endings.Unprinted run) = (is_run words ≡ true) × Ran old new run
 Caused words old new before now (endings.Done run) = (is_run words ≡ true) × Ran old new run
-
--- the bytes are a script
-abbrev pub IsScript : List ℕ → Plan → Type 0
-IsScript bytes script = (length bytes ≤ longest) × (script_of bytes ≡ Ok script)
 
 -- The ending is of these words and these bytes, which were all that was left. But for a failed read and want of memory, one ending alone
 -- is of the same words and bytes.
 abbrev pub IsOf : List (List ℕ) → List ℕ → Ending → Type 0
-IsOf words bytes endings.Usage = is_run words ≡ false
-IsOf words bytes endings.ReadFault = is_run words ≡ true
-IsOf words bytes endings.TooLong = (is_run words ≡ true) × (longest < length bytes)
-IsOf words bytes (endings.BadScript p) = (is_run words ≡ true) × (length bytes ≤ longest) × (script_of bytes ≡ Err p)
-IsOf words bytes (endings.NoSuchJob n) = (is_run words ≡ true) × ((script : Plan) × IsScript bytes script × LacksJob script n)
-IsOf words bytes endings.OutOfMemory = is_run words ≡ true
+IsOf words bytes (endings.Refused refusal) = IsRefusalOf words bytes refusal
 IsOf words bytes (endings.Unprinted run) = (is_run words ≡ true) × IsScript bytes (plan run.script) × HasJobs (plan run.script)
 IsOf words bytes (endings.Done run) = (is_run words ≡ true) × IsScript bytes (plan run.script) × HasJobs (plan run.script)
 
 abbrev pub status_of : Ending → ℕ
-status_of endings.Usage = 1
-status_of endings.ReadFault = 2
-status_of endings.TooLong = 7
-status_of (endings.BadScript p) = 3
-status_of (endings.NoSuchJob n) = 5
-status_of endings.OutOfMemory = 6
+status_of (endings.Refused refusal) = refusal_status refusal
 status_of (endings.Unprinted run) = 6
 status_of (endings.Done run) = 0
 
 abbrev pub ending_text : Ending → List ℕ
-ending_text endings.Usage = codes "usage: jobs run | jobs share | jobs grow N\n"
-ending_text endings.ReadFault = codes "read fault\n"
-ending_text endings.TooLong = codes "script too long\n"
-ending_text (endings.BadScript p) = line (codes "bad script: " ++ place_text p)
-ending_text (endings.NoSuchJob n) = line (codes "no such job: " ++ decimal n)
-ending_text endings.OutOfMemory = codes "out of memory\n"
+ending_text (endings.Refused refusal) = refusal_text refusal
 ending_text (endings.Unprinted run) = codes "out of memory\n"
 ending_text (endings.Done run) = text_of run
 
 -- the run that was played to its end
 abbrev pub run_of : Ending → Option Run
-run_of endings.Usage = None
-run_of endings.ReadFault = None
-run_of endings.TooLong = None
-run_of (endings.BadScript p) = None
-run_of (endings.NoSuchJob n) = None
-run_of endings.OutOfMemory = None
+run_of (endings.Refused refusal) = None
 run_of (endings.Unprinted run) = Some run
 run_of (endings.Done run) = Some run
 
@@ -214,18 +144,9 @@ IsAsked words left = (is_run words ≡ true) × ((bytes : List ℕ) × (left ≡
 abbrev pub RunsThrough : List (List ℕ) → Option (List ℕ) → (read read' written written' : ℕ) → ℕ → Type 0
 RunsThrough words left read read' written written' status = IsAsked words left → (Rose read read' → ⊥) → (Rose written written' → ⊥) → (status ≡ 0) ⊎ (status ≡ 6)
 
--- a status was told by its text, whole; or the sink failed, and a front of the text was taken
-abbrev pub EndingTold : ℕ → List ℕ → ℕ → Option (List ℕ) → Option (List ℕ) → ℕ → ℕ → Type 0
-EndingTold meant text status old new before now = ((status ≡ meant) × Appends old new text) ⊎ ((status ≡ 4) × Rose before now × TookFront old new text)
-
 -- as what an ending is told where memory runs out for its text
 abbrev pub short_of : Ending → Ending
-short_of endings.Usage = endings.Usage
-short_of endings.ReadFault = endings.ReadFault
-short_of endings.TooLong = endings.TooLong
-short_of (endings.BadScript p) = endings.OutOfMemory
-short_of (endings.NoSuchJob n) = endings.OutOfMemory
-short_of endings.OutOfMemory = endings.OutOfMemory
+short_of (endings.Refused refusal) = endings.Refused (short_refusal refusal)
 short_of (endings.Unprinted run) = endings.Unprinted run
 short_of (endings.Done run) = endings.Unprinted run
 

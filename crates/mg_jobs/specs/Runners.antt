@@ -2,7 +2,7 @@
 use Rattle.std.specs.Prelude.{ℕ, ℤ, Bool, true, Option, Some, None, List, slice_get}
 use Rattle.mg_link.specs.Link.{Awaited}
 use Rattle.mg_players.specs.Runs.{MayAllGo, has_ended}
-use Rattle.mg_script.specs.declared.outcome.Turned.{Turned}
+use Rattle.mg_turns.specs.declared.turned.Turned.{Turned}
 use Rattle.mg_jobs.specs.declared.run.Runner.{Runner}
 use Rattle.mg_players.specs.declared.player.Player.{Player}
 

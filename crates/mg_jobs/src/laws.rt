@@ -14,7 +14,7 @@ ghost use Rattle.mg_server.specs.Step.{documents_of};
 ghost use Rattle.mg_ops.specs.Appended.{Appended, InsertsAt};
 ghost use Rattle.mg_players.specs.Causes.{Course, OutcomeCaused};
 ghost use Rattle.mg_jobs.specs.Completing.{JobWell, OutcomeGot};
-ghost use Rattle.mg_players.specs.Counts.{Faultless};
+ghost use Rattle.mg_turns.specs.Counts.{Faultless};
 ghost use Rattle.mg_script.specs.Plan.{Task};
 ghost use Rattle.mg_script.specs.declared.outcome.Outcome.{Outcome};
 ghost use Rattle.mg_jobs.specs.declared.program.Ending.{Ending};

@@ -1,7 +1,6 @@
 //! Jobs over a store, from the script to the printed text.
 #![tactic(auto)]
 
-mod counting;
 mod fated;
 mod fates;
 pub mod laws;
@@ -9,6 +8,7 @@ mod program;
 mod run;
 
 pub use mg_link::{MemSink, MemSource, ReadFailed, Sink, Source, StdSink, StdSource, WriteFailed};
+pub use mg_program::Refusal;
 pub use mg_script::{
     Answer, DatabaseName, Ended, Job, Outcome, Place, Played, Run, Script, ScriptError, Start,
     Turned, json_text, parse_script, value_from_json,

@@ -1,5 +1,5 @@
 //! The program, from the words of its command line to its status.
-ghost use Rattle.std.specs.Prelude.{◌≡◌, ◌⊎◌, ◌++◌, ◌∷◌, [], ℕ, Some, None, map, length, codes, decimal, false, string_bytes, IfErr, IfOk, IfSome, IsSomeAnd};
+ghost use Rattle.std.specs.Prelude.{◌≡◌, ◌⊎◌, ◌++◌, ◌∷◌, [], ℕ, Some, map, length, codes, false, string_bytes, IfErr, IfOk, IfSome, IsSomeAnd};
 ghost use Rattle.std.specs.Io.KnownBytes.{Appends};
 ghost use Rattle.mg_link.specs.Causes.{Rose};
 ghost use Rattle.mg_link.specs.Errors.{plain};
@@ -8,15 +8,16 @@ ghost use Rattle.mg_script.specs.declared.fault.Place.{Place};
 ghost use Rattle.mg_jobs.specs.declared.program.Ending.{Ending};
 ghost use Rattle.mg_script.specs.Plan.{plan};
 ghost use Rattle.mg_script.specs.Plan as plans;
-ghost use Rattle.mg_script.specs.Places.{place_text};
-ghost use Rattle.mg_script.specs.Text.{line, text_of};
-ghost use Rattle.mg_jobs.specs.Program.{Caused, HasJobs, IsToldAs, Ran, ReadMissing, ReadNoScript, ReadTooMuch, RunFollowed, RunsThrough, EndingTold, ending_text, is_run, run_of, status_of};
+ghost use Rattle.mg_script.specs.Text.{text_of};
+ghost use Rattle.mg_program.specs.Refusals.{EndingTold, HasJobs, ReadMissing, ReadNoScript, ReadTooMuch, is_run};
+ghost use Rattle.mg_jobs.specs.Program.{Caused, IsToldAs, Ran, RunFollowed, RunsThrough, ending_text, run_of, status_of};
 
 use crate::fated::{Fated, FatedLink};
 use crate::fates::small_copies;
 use crate::run::run_jobs;
-use mg_link::{CountedIds, Error, InputError, Sink, Source, read_all, write_all};
-use mg_script::{Place, Run, Script, ScriptError, missing, parse_script, text_of};
+use mg_link::{CountedIds, Error, Sink, Source};
+use mg_program::{Refusal, read_script, refuse, say};
+use mg_script::{Run, Script, text_of};
 use mg_store::{MemLink, Store};
 use std::alloc::Global;
 use std::marker::Brand;
@@ -33,31 +34,12 @@ pub struct Finished {
 /// What came of the words and the input.
 #[derive(Drop)]
 pub enum Ending {
-    /// The words are not those of a mode.
-    Usage,
-    /// The source failed.
-    ReadFault,
-    /// More bytes came than a script may have.
-    TooLong,
-    /// The bytes are no script, and their first fault stands here.
-    BadScript(Place),
-    /// The order has this number, which names no job.
-    NoSuchJob(u32),
-    /// Memory ran out before the jobs were run.
-    OutOfMemory,
+    /// No jobs were run, for this reason.
+    Refused(Refusal),
     /// The jobs were run, and memory ran out for their text.
     Unprinted(Run),
     /// The jobs were run.
     Done(Run),
-}
-
-fn is_run(words: &[String]) -> bool
-    ensures { result ≡ is_run (map string_bytes words.now) }
-{
-    match words {
-        [word] => word.as_str() == "run",
-        _ => false,
-    }
 }
 
 /// The bytes that all ids begin with which a script's inserts draw.
@@ -124,37 +106,13 @@ fn play<S: Source>(alloc: Global, words: &[String], source: &mut S) -> Ending
     ensures { Caused (map string_bytes words.now) (S.left source.old) (S.left source.new)
         (S.faults source.old) (S.faults source.new) result }
 {
-    if !is_run(words) {
-        return Ending::Usage;
-    }
-    let bytes = match read_all(alloc, source) {
-        Ok(bytes) => bytes,
-        Err(InputError::Memory) => return Ending::OutOfMemory,
-        Err(InputError::Fault) => return Ending::ReadFault,
-        Err(InputError::TooLong) => return Ending::TooLong,
-    };
-    let script = match parse_script(alloc, bytes.as_slice()) {
+    let script = match read_script(alloc, words, source) {
         Ok(script) => script,
-        Err(ScriptError::OutOfMemory) => return Ending::OutOfMemory,
-        Err(ScriptError::Fault(place)) => return Ending::BadScript(place),
+        Err(refusal) => return Ending::Refused(refusal),
     };
-    if let Some(n) = missing(&script) {
-        return Ending::NoSuchJob(n);
-    }
     match run_script(alloc, script) {
         Ok(run) => Ending::Done(run),
-        Err(_) => Ending::OutOfMemory,
-    }
-}
-
-/// Writes the text of a status, and answers the status, or 4 where the sink failed.
-fn say<K: Sink>(sink: &mut K, status: u8, text: &str) -> u8
-    ensures { EndingTold status text.now result (K.taken sink.old) (K.taken sink.new)
-        (K.faults sink.old) (K.faults sink.new) }
-{
-    match write_all(sink, text.as_bytes()) {
-        Ok(()) => status,
-        Err(_) => 4,
+        Err(_) => Ending::Refused(Refusal::OutOfMemory),
     }
 }
 
@@ -178,57 +136,15 @@ fn print_run<K: Sink>(alloc: Global, run: Run, sink: &mut K) -> Finished
     }
 }
 
-/// Writes the text of a status where no jobs were run.
-fn refuse<K: Sink>(sink: &mut K, status: u8, text: &str) -> Finished
-    ensures run { result.run ≡ None }
-    ensures told { EndingTold status text.now result.status (K.taken sink.old) (K.taken sink.new)
-        (K.faults sink.old) (K.faults sink.new) }
-{
-    Finished {
-        status: say(sink, status, text),
-        run: None,
-    }
-}
-
-/// Writes where the first fault of the input stands, or that memory ran out for it.
-fn refuse_script<K: Sink>(alloc: Global, place: Place, sink: &mut K) -> Finished
-    ensures run { result.run ≡ None }
-    ensures told { EndingTold 3 (line (codes "bad script: " ++ place_text place)) result.status
-        (K.taken sink.old) (K.taken sink.new) (K.faults sink.old) (K.faults sink.new)
-        ⊎ EndingTold 6 (codes "out of memory\n") result.status (K.taken sink.old) (K.taken sink.new)
-        (K.faults sink.old) (K.faults sink.new) }
-{
-    match format!(in alloc; "bad script: {place}\n") {
-        Ok(text) => refuse(sink, 3, text.as_str()),
-        Err(_) => refuse(sink, 6, "out of memory\n"),
-    }
-}
-
-/// Writes which number names no job, or that memory ran out for it.
-fn refuse_job<K: Sink>(alloc: Global, n: u32, sink: &mut K) -> Finished
-    ensures run { result.run ≡ None }
-    ensures told { EndingTold 5 (line (codes "no such job: " ++ decimal n)) result.status
-        (K.taken sink.old) (K.taken sink.new) (K.faults sink.old) (K.faults sink.new)
-        ⊎ EndingTold 6 (codes "out of memory\n") result.status (K.taken sink.old) (K.taken sink.new)
-        (K.faults sink.old) (K.faults sink.new) }
-{
-    match format!(in alloc; "no such job: {n}\n") {
-        Ok(text) => refuse(sink, 5, text.as_str()),
-        Err(_) => refuse(sink, 6, "out of memory\n"),
-    }
-}
-
 /// Writes what came of the words and the input, and hands the run back.
 fn tell<K: Sink>(alloc: Global, ending: Ending, sink: &mut K) -> Finished
     ensures { IsToldAs ending result.run result.status (K.taken sink.old) (K.taken sink.new) (K.faults sink.old) (K.faults sink.new) }
 {
     match ending {
-        Ending::Usage => refuse(sink, 1, "usage: jobs run | jobs share | jobs grow N\n"),
-        Ending::ReadFault => refuse(sink, 2, "read fault\n"),
-        Ending::TooLong => refuse(sink, 7, "script too long\n"),
-        Ending::BadScript(place) => refuse_script(alloc, place, sink),
-        Ending::NoSuchJob(n) => refuse_job(alloc, n, sink),
-        Ending::OutOfMemory => refuse(sink, 6, "out of memory\n"),
+        Ending::Refused(refusal) => Finished {
+            status: refuse(alloc, refusal, sink),
+            run: None,
+        },
         Ending::Unprinted(run) => Finished {
             status: say(sink, 6, "out of memory\n"),
             run: Some(run),

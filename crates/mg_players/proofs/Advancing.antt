@@ -18,7 +18,7 @@ use Rattle.mg_change.specs.declared.event_poll.EventPoll.{EventPoll}
 use Rattle.mg_change.specs.declared.event_poll.EventPoll.TheVariants as polls
 use Rattle.mg_change.specs.declared.opening.Opening.{Opening}
 use Rattle.mg_change.specs.declared.stream.ChangeStream.{ChangeStream}
-use Rattle.mg_players.specs.Counts.{RoseIf, one_if}
+use Rattle.mg_turns.specs.Counts.{RoseIf, one_if}
 use Rattle.mg_players.specs.Follows.{HasEnded, HasGiven, IsFailed, IsUnfinished}
 use Rattle.mg_players.specs.Gets.{KeepsRead, OpensAs, done_behind, get_end, gets_ended, gets_ticket, room_of}
 use Rattle.mg_players.specs.Headline.{DoTasks, OutcomeOf, OutcomesOf, task_of}
@@ -35,7 +35,7 @@ use Rattle.mg_script.specs.declared.outcome.Ended.{Ended}
 use Rattle.mg_script.specs.declared.outcome.Ended.TheVariants as ended
 use Rattle.mg_script.specs.declared.outcome.Outcome.{Outcome}
 use Rattle.mg_script.specs.declared.outcome.Played.{Played}
-use Rattle.mg_script.specs.declared.outcome.Turned.{Turned}
+use Rattle.mg_turns.specs.declared.turned.Turned.{Turned}
 use Rattle.mg_players.specs.declared.follow.FollowPlayer.{FollowPlayer}
 use Rattle.std.specs.declared.alloc.Global.{Global}
 use Rattle.mg_gridfs.specs.declared.download.GridFsDownloadStream.{GridFsDownloadStream}

@@ -19,10 +19,10 @@ use Rattle.mg_change.specs.Sent.{Falling, resuming_places}
 use Rattle.mg_change.proofs.Sent.{Tried, falling_as, resume_sent, resume_waits, tried_below, tried_on}
 use Rattle.mg_change.proofs.Such.{all_falling}
 use Rattle.mg_records.specs.FileRecords.{FileRecord}
+use Rattle.mg_chunks.specs.Broken.{broken}
 use Rattle.mg_gridfs.specs.Buckets.{ClientBucket}
 use Rattle.mg_gridfs.specs.Commands.{found_lines, listed_lines}
 use Rattle.mg_gridfs.specs.Downloaded.{IsPlainAt}
-use Rattle.mg_gridfs.specs.Downloads as downloads
 use Rattle.mg_gridfs.specs.Downloads.{empty_download, new_download}
 use Rattle.mg_gridfs.specs.Findings as findings
 use Rattle.mg_gridfs.specs.Findings.{BeginsFind, ClientFinding, FindsOn, HearsList, HearsRecord, IsSoundFinding, ListsOn, Looking, Opened, Opens, OpensFile, SoundIn}
@@ -153,7 +153,7 @@ module _ (g : GetTask) (places : List ℕ) (since : ℕ) (wire : ℤ) where
     -- ---- behind the record
 
     opens_asked : (old new : Awaited) (log log' : LogTold) (f : FileRecord) (r : Opened) (calls : List Call) → log ≡ Some calls → since ≤ length calls → HeardRecord (past_of places since calls wire) b id (Some f) → OpensFile old new log log' wire b f r → Asked log log' None 3 r
-    opens_asked old new log log' f r calls told room heard (findings.too_many m many none is) = quietly old new log log' calls None 3 r (findings.fails (downloads.broken m)) told none is tt (omega arith) (no_record calls)
+    opens_asked old new log log' f r calls told room heard (findings.too_many m many none is) = quietly old new log log' calls None 3 r (findings.fails (broken m)) told none is tt (omega arith) (no_record calls)
     opens_asked old new log log' f r calls told room heard (findings.is_empty zero_long none is) = quietly old new log log' calls (Some f) 3 r (findings.opens (empty_download f)) told none is refl (omega arith) (its_record calls f (heard_its calls f heard))
     opens_asked old new log log' f r calls told room heard (findings.not_built some e why none is) = quietly old new log log' calls None 3 r (findings.fails e) told none is tt (omega arith) (no_record calls)
     opens_asked old new log log' f r calls told room heard (findings.listed some count counted s new_one on) =

@@ -39,8 +39,9 @@ use Rattle.mg_ops.specs.Cursors.{BreaksIn, Cursor, cursor_in, cursor_of, found, 
 use Rattle.mg_ops.specs.Naming.{IsNamed}
 use Rattle.mg_cursor.specs.Causes.{TellsNoCursor}
 use Rattle.mg_cursor.specs.Client.{get_more}
-use Rattle.mg_records.specs.FileRecords.{FileRecord, chunk_count, chunk_count_of, counted, file_fields, file_record_of, with_chunks}
-use Rattle.mg_records.specs.Readings.{Breaks}
+use Rattle.mg_chunks.specs.Sizes.{chunk_count, chunk_count_of, counted}
+use Rattle.mg_records.specs.FileRecords.{FileRecord, file_fields, file_record_of, with_chunks}
+use Rattle.mg_chunks.specs.Broken.{Breaks}
 use Rattle.mg_gridfs.specs.Commands.{CannotSend, found_lines, listed_lines}
 use Rattle.mg_gridfs.specs.Downloaded.{record_query}
 use Rattle.mg_gridfs.specs.Findings.{BreaksRecord, GivesFirst, in_batch, is_found, no_cursor, no_document, no_record, none_found}

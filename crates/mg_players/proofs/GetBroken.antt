@@ -32,8 +32,9 @@ use Rattle.mg_options.specs.Fields.{Line, Refuses, first_unfit}
 use Rattle.mg_ops.specs.Naming.{IsNamed}
 use Rattle.mg_cursor.specs.Causes.{TellsNoCursor}
 use Rattle.mg_cursor.specs.Client.{ClientCursor, get_more}
-use Rattle.mg_records.specs.FileRecords.{FileRecord, chunk_count_of, file_record_of}
-use Rattle.mg_records.specs.Readings.{Breaks}
+use Rattle.mg_chunks.specs.Sizes.{chunk_count_of}
+use Rattle.mg_records.specs.FileRecords.{FileRecord, file_record_of}
+use Rattle.mg_chunks.specs.Broken.{Breaks}
 use Rattle.mg_gridfs.specs.Commands.{CannotSend, found_lines, listed_lines}
 use Rattle.mg_gridfs.specs.Downloaded.{chunks_query, record_query}
 use Rattle.mg_gridfs.specs.Findings.{BreaksRecord, in_batch, no_cursor, no_document, no_record}

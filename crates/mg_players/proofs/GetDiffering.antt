@@ -13,10 +13,12 @@ use Rattle.mg_link.specs.declared.error.Error.{Error}
 use Rattle.mg_link.specs.declared.error.Malformed.TheVariants as malformed
 use Rattle.mg_server.proofs.Files.{quiet_stays}
 use Rattle.mg_link.proofs.Places.{get_seam, get_within}
-use Rattle.mg_records.specs.FileRecords.{FileRecord, chunk_count, chunk_count_of, chunk_length, file_record_of}
+use Rattle.mg_chunks.specs.Sizes.{chunk_count, chunk_count_of, chunk_length}
+use Rattle.mg_records.specs.FileRecords.{FileRecord, file_record_of}
 use Rattle.mg_gridfs.specs.Downloaded.{AreReceived}
 use Rattle.mg_gridfs.specs.DownloadLaws.{IsBetween}
-use Rattle.mg_gridfs.specs.Downloads.{all_judged, and_then, judged, needed_as}
+use Rattle.mg_chunks.specs.Chunks.{all_judged, and_then, judged, needed_as}
+use Rattle.mg_gridfs.specs.Downloads.{sizes_of}
 use Rattle.mg_gridfs.proofs.Received.{received_behind}
 use Rattle.mg_players.specs.Reading.{Differ, ListsOther, miscounted, one_differs}
 use Rattle.mg_players.proofs.GetJudged.{are_cut, chunk_fine, chunks_many, count_said, paired, whole_counts, whole_says}
@@ -31,18 +33,18 @@ pub record FirstOther (f : FileRecord) (n : ℕ) (documents : List Fields) (e : 
   pub left : List Fields
   pub these : documents ≡ before ++ d ∷ left
   pub received : AreReceived f n chunks before
-  pub other : judged f (n + length chunks) d ≡ Err e
+  pub other : judged (sizes_of f) (n + length chunks) d ≡ Err e
 
 same_errors : (x y : Error) → ◌≡◌ {A = Result (List (List ℕ)) Error} (Err x) (Err y) → x ≡ y
 same_errors x y is = cc
 
 -- it is the first document, or one behind it
-behind_first : (f : FileRecord) (n : ℕ) (ts : Items) (d : Fields) (more : List Fields) (e : Error) (c : List ℕ) → judged f n d ≡ Ok c → (q : Result (List (List ℕ)) Error) → all_judged f (suc n) ts ≡ q → and_then q (λ (cs : List (List ℕ)). Ok (c ∷ cs)) ≡ Err e
-    → (all_judged f (suc n) ts ≡ Err e → FirstOther f (suc n) more e) → FirstOther f n (d ∷ more) e
+behind_first : (f : FileRecord) (n : ℕ) (ts : Items) (d : Fields) (more : List Fields) (e : Error) (c : List ℕ) → judged (sizes_of f) n d ≡ Ok c → (q : Result (List (List ℕ)) Error) → all_judged (sizes_of f) (suc n) ts ≡ q → and_then q (λ (cs : List (List ℕ)). Ok (c ∷ cs)) ≡ Err e
+    → (all_judged (sizes_of f) (suc n) ts ≡ Err e → FirstOther f (suc n) more e) → FirstOther f n (d ∷ more) e
 behind_first f n ts d more e c is (Ok cs) at bad go = absurd cc
 behind_first f n ts d more e c is (Err x) at bad go =
     let same : x ≡ e = same_errors x e bad in
-    let r = go (subst (λ (y : Error). all_judged f (suc n) ts ≡ Err y) same at) in
+    let r = go (subst (λ (y : Error). all_judged (sizes_of f) (suc n) ts ≡ Err y) same at) in
     let number : suc n + length r.chunks ≡ n + suc (length r.chunks) = omega arith in
     record {
       before = d ∷ r.before;
@@ -51,12 +53,12 @@ behind_first f n ts d more e c is (Err x) at bad go =
       left = r.left;
       these = ap (λ (l : List Fields). d ∷ l) r.these;
       received = (is, r.received);
-      other = subst (λ (m : ℕ). judged f m r.d ≡ Err e) number r.other;
+      other = subst (λ (m : ℕ). judged (sizes_of f) m r.d ≡ Err e) number r.other;
     }
 
-next_other : (f : FileRecord) (n : ℕ) (ts : Items) (d : Fields) (more : List Fields) (e : Error) (r : Result (List ℕ) Error) → judged f n d ≡ r → and_then r (λ (c : List ℕ). and_then (all_judged f (suc n) ts) (λ (cs : List (List ℕ)). Ok (c ∷ cs))) ≡ Err e
-    → (all_judged f (suc n) ts ≡ Err e → FirstOther f (suc n) more e) → FirstOther f n (d ∷ more) e
-next_other f n ts d more e (Ok c) is bad go = behind_first f n ts d more e c is (all_judged f (suc n) ts) refl bad go
+next_other : (f : FileRecord) (n : ℕ) (ts : Items) (d : Fields) (more : List Fields) (e : Error) (r : Result (List ℕ) Error) → judged (sizes_of f) n d ≡ r → and_then r (λ (c : List ℕ). and_then (all_judged (sizes_of f) (suc n) ts) (λ (cs : List (List ℕ)). Ok (c ∷ cs))) ≡ Err e
+    → (all_judged (sizes_of f) (suc n) ts ≡ Err e → FirstOther f (suc n) more e) → FirstOther f n (d ∷ more) e
+next_other f n ts d more e (Ok c) is bad go = behind_first f n ts d more e c is (all_judged (sizes_of f) (suc n) ts) refl bad go
 next_other f n ts d more e (Err x) is bad go =
     let same : x ≡ e = same_errors x e bad in
     let number : n ≡ n + 0 = omega arith in
@@ -67,19 +69,19 @@ next_other f n ts d more e (Err x) is bad go =
       left = more;
       these = refl;
       received = tt;
-      other = subst (λ (m : ℕ). judged f m d ≡ Err e) number (subst (λ (y : Error). judged f n d ≡ Err y) same is);
+      other = subst (λ (m : ℕ). judged (sizes_of f) m d ≡ Err e) number (subst (λ (y : Error). judged (sizes_of f) n d ≡ Err y) same is);
     }
 
-first_other : (f : FileRecord) (n : ℕ) (batch : Items) (documents : List Fields) (e : Error) → documents_in batch ≡ Some documents → all_judged f n batch ≡ Err e → FirstOther f n documents e
+first_other : (f : FileRecord) (n : ℕ) (batch : Items) (documents : List Fields) (e : Error) → documents_in batch ≡ Some documents → all_judged (sizes_of f) n batch ≡ Err e → FirstOther f n documents e
 first_other f n no_items documents e these bad = absurd cc
 first_other f n (item t ts) documents e these bad =
     let p = paired (as_document t) (documents_in ts) documents these in
-    let here : and_then (judged f n p.x) (λ (c : List ℕ). and_then (all_judged f (suc n) ts) (λ (cs : List (List ℕ)). Ok (c ∷ cs))) ≡ Err e
-    = sym (ap (λ (o : Option Fields). and_then (needed_as malformed.BadItem o) (λ (d : Fields). and_then (judged f n d) (λ (c : List ℕ). and_then (all_judged f (suc n) ts) (λ (cs : List (List ℕ)). Ok (c ∷ cs))))) p.first_is) ∙ bad in
-    subst (λ (l : List Fields). FirstOther f n l e) p.these (next_other f n ts p.x p.more e (judged f n p.x) refl here (λ worse. first_other f (suc n) ts p.more e p.rest_is worse))
+    let here : and_then (judged (sizes_of f) n p.x) (λ (c : List ℕ). and_then (all_judged (sizes_of f) (suc n) ts) (λ (cs : List (List ℕ)). Ok (c ∷ cs))) ≡ Err e
+    = sym (ap (λ (o : Option Fields). and_then (needed_as malformed.BadItem o) (λ (d : Fields). and_then (judged (sizes_of f) n d) (λ (c : List ℕ). and_then (all_judged (sizes_of f) (suc n) ts) (λ (cs : List (List ℕ)). Ok (c ∷ cs))))) p.first_is) ∙ bad in
+    subst (λ (l : List Fields). FirstOther f n l e) p.these (next_other f n ts p.x p.more e (judged (sizes_of f) n p.x) refl here (λ worse. first_other f (suc n) ts p.more e p.rest_is worse))
 
 -- so it is where a batch comes behind those that were received
-pub batch_differs : (f : FileRecord) (count : ℕ) (chunks : List (List ℕ)) (given documents tail left : List Fields) → AreReceived f 0 chunks given → (batch : Items) → documents_in batch ≡ Some documents → (e : Error) → all_judged f (length chunks) batch ≡ Err e
+pub batch_differs : (f : FileRecord) (count : ℕ) (chunks : List (List ℕ)) (given documents tail left : List Fields) → AreReceived f 0 chunks given → (batch : Items) → documents_in batch ≡ Some documents → (e : Error) → all_judged (sizes_of f) (length chunks) batch ≡ Err e
     → Differ f count (((given ++ documents) ++ tail) ++ left) e
 batch_differs f count chunks given documents tail left are batch these e bad =
     let o = first_other f (length chunks) batch documents e these bad in
@@ -91,7 +93,7 @@ batch_differs f count chunks given documents tail left are batch these e bad =
     ∙ ap (λ (l : List Fields). given ++ (l ++ (tail ++ left))) o.these
     ∙ ap (λ (l : List Fields). given ++ l) (append_assoc o.before (o.d ∷ o.left) (tail ++ left))
     ∙ sym (append_assoc given o.before (o.d ∷ (o.left ++ (tail ++ left)))) in
-    one_differs (given ++ o.before) (chunks ++ o.chunks) o.d (o.left ++ (tail ++ left)) parts behind (subst (λ (n : ℕ). judged f n o.d ≡ Err e) (sym (length-append chunks o.chunks)) o.other)
+    one_differs (given ++ o.before) (chunks ++ o.chunks) o.d (o.left ++ (tail ++ left)) parts behind (subst (λ (n : ℕ). judged (sizes_of f) n o.d ≡ Err e) (sym (length-append chunks o.chunks)) o.other)
 
 -- ---- a whole file
 
@@ -104,7 +106,7 @@ received_many f n (c ∷ cs) (d ∷ ds) a = ap suc (received_many f (suc n) cs d
 
 module _ (f : FileRecord) (count : ℕ) (whole : List ℕ) (size : ℕ) (long : length whole ≡ f.length) (same : size ≡ f.chunk_size) (some : 0 < f.chunk_size) (counts : chunk_count_of f.length f.chunk_size ≡ Ok count) where
   -- the one that stands there is as it should be
-  never_other : (before rest : List (List ℕ)) (n : ℕ) (d : Fields) (left : List Fields) (e : Error) → chunked size whole ≡ before ++ rest → length before ≡ n → AreChunks (length before) rest (d ∷ left) → judged f n d ≡ Err e → ⊥
+  never_other : (before rest : List (List ℕ)) (n : ℕ) (d : Fields) (left : List Fields) (e : Error) → chunked size whole ≡ before ++ rest → length before ≡ n → AreChunks (length before) rest (d ∷ left) → judged (sizes_of f) n d ≡ Err e → ⊥
   never_other before [] n d left e these number are bad = absurd are
   never_other before (c ∷ cs) n d left e these number are bad =
       let cut = whole_counts whole size f long same some in
@@ -112,7 +114,7 @@ module _ (f : FileRecord) (count : ℕ) (whole : List ℕ) (size : ℕ) (long : 
       let expected : length c ≡ chunk_length f.length f.chunk_size (length before)
       = cut.each (length before) c there ∙ ap (λ (m : ℕ). chunk_length m size (length before)) long ∙ ap (λ (m : ℕ). chunk_length f.length m (length before)) same in
       let fine = chunk_fine f (length before) c d count are.0 counts expected in
-      let both : ◌≡◌ {A = Result (List ℕ) Error} (Ok c) (Err e) = sym fine ∙ ap (λ (m : ℕ). judged f m d) number ∙ bad in
+      let both : ◌≡◌ {A = Result (List ℕ) Error} (Ok c) (Err e) = sym fine ∙ ap (λ (m : ℕ). judged (sizes_of f) m d) number ∙ bad in
       cc
 
   -- no chunk of a whole file differs, and there are as many as its record says

@@ -40,9 +40,11 @@ use Rattle.mg_cursor.proofs.Caused.{next_caused}
 use Rattle.mg_cursor.proofs.Keeping.{sound_in_any, sound_next}
 use Rattle.mg_cursor.proofs.Reading.{next_read}
 use Rattle.mg_cursor.proofs.SeekCaused.{fails_grow, since_grows, underway_grow, underway_rest}
-use Rattle.mg_records.specs.FileRecords.{FileRecord, chunk_count_of}
+use Rattle.mg_chunks.specs.Sizes.{chunk_count_of}
+use Rattle.mg_records.specs.FileRecords.{FileRecord}
 use Rattle.mg_gridfs.specs.Downloaded.{AreReceived, KnowsChunks, chunks_query}
-use Rattle.mg_gridfs.specs.Downloads.{ClientDownload, Doing, all_judged, ended, idle, most_empty, reads, spoiled}
+use Rattle.mg_chunks.specs.Chunks.{all_judged}
+use Rattle.mg_gridfs.specs.Downloads.{ClientDownload, Doing, ended, idle, most_empty, reads, sizes_of, spoiled}
 use Rattle.mg_gridfs.specs.Reads as steps
 use Rattle.mg_gridfs.specs.Reads.{EndsFetch, Fetched, Fetches, SpoilsBatch, TakesOne, enough, fails, no_more, none_missing, not_taken, over, pends, waits, with_chunks}
 use Rattle.mg_gridfs.proofs.Downloading.{next_named, next_rests, same_cursor, taken_as}
@@ -309,12 +311,12 @@ module _ (g : GetTask) (P : List ℕ) (L : ℕ) (wire : ℤ) (bytes : List ℕ) 
           differs_by p.calls' g.at d.file listed reader' p.knows s.know.none_lost s.know.queries s.know.asked_at p.lists.named d.count s.counted e
           (λ left history legal stands over_so. let b = legal_batch history legal stands in absurd (batch_there reply b.0 e b.1 none))
 
-      one_there : (e : Error) (batch : Items) → batch_at (fields reply) ≡ Ok batch → all_judged d.file d.taken batch ≡ Err e → ListsOther p.calls' g.at d.file listed e
+      one_there : (e : Error) (batch : Items) → batch_at (fields reply) ≡ Ok batch → all_judged (sizes_of d.file) d.taken batch ≡ Err e → ListsOther p.calls' g.at d.file listed e
       one_there e batch at bad =
           differs_by p.calls' g.at d.file listed reader' p.knows s.know.none_lost s.know.queries s.know.asked_at p.lists.named d.count s.counted e
           (λ left history legal stands over_so.
           let b = legal_batch history legal stands in
-          batch_differs d.file d.count s.know.chunks s.know.reader.given (batch_documents reply) ([] ++ in_reply behind.doing) left s.know.received batch (documents_there reply b.0 batch b.1 at) e (ap (λ (n : ℕ). all_judged d.file n batch) (sym s.know.taken) ∙ bad))
+          batch_differs d.file d.count s.know.chunks s.know.reader.given (batch_documents reply) ([] ++ in_reply behind.doing) left s.know.received batch (documents_there reply b.0 batch b.1 at) e (ap (λ (n : ℕ). all_judged (sizes_of d.file) n batch) (sym s.know.taken) ∙ bad))
 
       many_so : BatchFrom c behind reply → batch_at (fields reply) ≡ Ok no_items → most_empty ≤ suc k → HeardEmpty (past_of P L p.calls' wire) (past_of N L p.calls' wire) g d.file
       many_so (from_hand at is) none many = let first = (p.lists.held reply at).0 in absurd (omega (arith, many, first))

@@ -14,9 +14,11 @@ use Rattle.mg_server.specs.Step.{documents_of}
 use Rattle.mg_link.specs.declared.error.Malformed.{Malformed}
 use Rattle.mg_link.specs.declared.error.Malformed.TheVariants as malformed
 use Rattle.mg_server.proofs.Owners.{same_some}
-use Rattle.mg_records.specs.FileRecords.{FileRecord, Numbers, chunk_count, chunk_count_of, chunk_length, chunk_length_of, counted, file_fields, file_numbers, file_record_of, small_count, where_counted, with_chunks}
+use Rattle.mg_chunks.specs.Sizes.{chunk_count, chunk_count_of, chunk_length, chunk_length_of, counted, where_counted}
+use Rattle.mg_records.specs.FileRecords.{FileRecord, Numbers, file_fields, file_numbers, file_record_of, small_count, with_chunks}
 use Rattle.mg_records.specs.Readings.{any_value, needed, optional}
-use Rattle.mg_gridfs.specs.Downloads.{and_then, data_of, judged, missing_chunk, needed_as, numbered_as, of_subtype_0, sized_as, wrong_size}
+use Rattle.mg_chunks.specs.Chunks.{and_then, data_of, judged, missing_chunk, needed_as, numbered_as, of_subtype_0, sized_as, wrong_size}
+use Rattle.mg_gridfs.specs.Downloads.{sizes_of}
 use Rattle.mg_gridfs.specs.Laws.{CutsAsCounted}
 use Rattle.mg_gridfs.proofs.Counting.{cuts_are_counted}
 use Rattle.mg_gridfs.proofs.OneFile.{first_meets, one_file, same_key}
@@ -157,15 +159,15 @@ whole_counts whole size f long same some = cuts_are_counted size whole (subst (�
 sized_fine : (n : ℕ) (b : List ℕ) (expected : ℕ) → length b ≡ expected → sized_as n b (Ok expected) ≡ Ok b
 sized_fine n b expected is = ap (λ (t : Bool). if t then Ok b else Err (wrong_size n (length b) expected)) (eq-eqb (length b) expected is)
 
-numbered_fine : (f : FileRecord) (n : ℕ) (b : List ℕ) (expected : ℕ) → chunk_length_of f.length f.chunk_size n ≡ Ok expected → length b ≡ expected → numbered_as f n (pos n) b ≡ Ok b
+numbered_fine : (f : FileRecord) (n : ℕ) (b : List ℕ) (expected : ℕ) → chunk_length_of f.length f.chunk_size n ≡ Ok expected → length b ≡ expected → numbered_as (sizes_of f) n (pos n) b ≡ Ok b
 numbered_fine f n b expected says is =
     ap (λ (t : Bool). if t then sized_as n b (chunk_length_of f.length f.chunk_size n) else Err (missing_chunk n)) ((Decides-int_eq (pos n) (pos n)).1 refl) ∙ ap (sized_as n b) says ∙ sized_fine n b expected is
 
-pub chunk_fine : (f : FileRecord) (n : ℕ) (b : List ℕ) (d : Fields) (count : ℕ) → IsChunk n b d → chunk_count_of f.length f.chunk_size ≡ Ok count → length b ≡ chunk_length f.length f.chunk_size n → judged f n d ≡ Ok b
+pub chunk_fine : (f : FileRecord) (n : ℕ) (b : List ℕ) (d : Fields) (count : ℕ) → IsChunk n b d → chunk_count_of f.length f.chunk_size ≡ Ok count → length b ≡ chunk_length f.length f.chunk_size n → judged (sizes_of f) n d ≡ Ok b
 chunk_fine f n b d count is counts long =
     let holds_it : data_of d ≡ Some b = ap (λ (o : Option Tree). option_and_then of_subtype_0 (option_and_then as_binary o)) is.data_is in
-    ap (λ o. and_then (needed_as malformed.BadChunk o) (λ number. and_then (needed_as malformed.BadChunk (data_of d)) (numbered_as f n number))) is.number_is
-    ∙ ap (λ o. and_then (needed_as malformed.BadChunk o) (numbered_as f n (pos n))) holds_it
+    ap (λ o. and_then (needed_as malformed.BadChunk o) (λ number. and_then (needed_as malformed.BadChunk (data_of d)) (numbered_as (sizes_of f) n number))) is.number_is
+    ∙ ap (λ o. and_then (needed_as malformed.BadChunk o) (numbered_as (sizes_of f) n (pos n))) holds_it
     ∙ numbered_fine f n b (chunk_length f.length f.chunk_size n) (ap (λ r. where_counted r (chunk_length f.length f.chunk_size n)) counts) long
 
 -- ---- chunks, one behind another

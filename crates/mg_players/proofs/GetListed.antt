@@ -24,6 +24,7 @@ use Rattle.mg_ops.proofs.Replying.{same_id}
 use Rattle.mg_cursor.specs.Client as client
 use Rattle.mg_cursor.specs.Client.{ClientCursor, new_client}
 use Rattle.mg_records.specs.FileRecords.{FileRecord}
+use Rattle.mg_chunks.specs.Broken.{broken}
 use Rattle.mg_gridfs.specs.Buckets.{ClientBucket}
 use Rattle.mg_gridfs.specs.Commands.{found_lines, listed_lines}
 use Rattle.mg_gridfs.specs.Downloaded.{IsPlainAt, chunks_query}
@@ -80,7 +81,7 @@ module _ (b : ClientBucket) (places : List ℕ) (since : ℕ) (wire : ℤ) where
   flies_new awaited past lines s is = subst (λ (stage : Stage). Flies awaited past (fields_in lines) stage) (sym is) tt
 
   opens_came : (old new : Awaited) (log log' : LogTold) (f : FileRecord) (r : Opened) (calls : List Call) → log ≡ Some calls → since ≤ length calls → OpensFile old new log log' wire b f r → Behind log' r
-  opens_came old new log log' f r calls told room (findings.too_many m many none is) = quietly old new log log' calls r (findings.fails (downloads.broken m)) told none is tt
+  opens_came old new log log' f r calls told room (findings.too_many m many none is) = quietly old new log log' calls r (findings.fails (broken m)) told none is tt
   opens_came old new log log' f r calls told room (findings.is_empty zero_long none is) = quietly old new log log' calls r (findings.opens (empty_download f)) told none is (inl refl)
   opens_came old new log log' f r calls told room (findings.not_built some e why none is) = quietly old new log log' calls r (findings.fails e) told none is tt
   opens_came old new log log' f r calls told room (findings.listed some count counted s new_one on) =

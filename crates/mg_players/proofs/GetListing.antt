@@ -27,7 +27,8 @@ use Rattle.mg_cursor.specs.Batches.{NoBatchIn}
 use Rattle.mg_cursor.specs.Causes.{HeardMore}
 use Rattle.mg_cursor.specs.Client.{ClientCursor, get_more}
 use Rattle.mg_cursor.specs.Reading.{batch_documents}
-use Rattle.mg_records.specs.FileRecords.{FileRecord, chunk_count_of}
+use Rattle.mg_chunks.specs.Sizes.{chunk_count_of}
+use Rattle.mg_records.specs.FileRecords.{FileRecord}
 use Rattle.mg_gridfs.specs.Downloaded.{IsPlainAt, chunks_query}
 use Rattle.mg_gridfs.proofs.Fronts.{all_known, all_opened, front_known, front_opened}
 use Rattle.mg_gridfs.proofs.OpeningKnown.{listed_asks}

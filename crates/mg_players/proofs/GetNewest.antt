@@ -23,6 +23,7 @@ use Rattle.mg_ops.specs.declared.cursor_reply.CursorSpecification.{CursorSpecifi
 use Rattle.mg_cursor.specs.Client as client
 use Rattle.mg_cursor.specs.Client.{ClientCursor, new_client}
 use Rattle.mg_records.specs.FileRecords.{FileRecord}
+use Rattle.mg_chunks.specs.Broken.{broken}
 use Rattle.mg_gridfs.specs.Buckets.{ClientBucket}
 use Rattle.mg_gridfs.specs.Downloads as downloads
 use Rattle.mg_gridfs.specs.Downloads.{ClientDownload, empty_download, new_download}
@@ -341,7 +342,7 @@ module _ (P : List ℕ) (L : ℕ) (below : (place : ℕ) → IsOf P place → pl
     flies_new s is = subst (FliesLast old (Own P L (length calls))) (sym is) tt
 
     file_last : (b : ClientBucket) (f : FileRecord) → OpensFile old new log log' wire b f r → BehindLast new log' r
-    file_last b f (findings.too_many m many none is) = quiet_last old new log log' calls r (findings.fails (downloads.broken m)) told none is tt
+    file_last b f (findings.too_many m many none is) = quiet_last old new log log' calls r (findings.fails (broken m)) told none is tt
     file_last b f (findings.is_empty zero_long none is) = quiet_last old new log log' calls r (findings.opens (empty_download f)) told none is (λ c at. let bad : None ≡ Some c = at in absurd cc)
     file_last b f (findings.not_built some e why none is) = quiet_last old new log log' calls r (findings.fails e) told none is tt
     file_last b f (findings.listed some count counted s new_one on) = lists_last f count s (flies_new s new_one.new) on

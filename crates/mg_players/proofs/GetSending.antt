@@ -20,11 +20,13 @@ use Rattle.mg_cursor.specs.declared.polls.NextPoll.TheVariants as next
 use Rattle.mg_change.proofs.Sent.{sent_on}
 use Rattle.mg_change.proofs.Such.{AddsSuch, AreAll, again_such, such_none}
 use Rattle.mg_records.specs.FileRecords.{FileRecord}
+use Rattle.mg_chunks.specs.Broken.{broken}
 use Rattle.mg_gridfs.specs.Buckets.{ClientBucket}
 use Rattle.mg_gridfs.specs.Commands.{found_lines, listed_lines}
 use Rattle.mg_gridfs.specs.Downloaded.{IsPlainAt}
 use Rattle.mg_gridfs.specs.Downloads as downloads
-use Rattle.mg_gridfs.specs.Downloads.{ClientDownload, Doing, IsSoundDownload, download_ticket, empty_download, missing_chunk, new_download}
+use Rattle.mg_chunks.specs.Chunks.{missing_chunk}
+use Rattle.mg_gridfs.specs.Downloads.{ClientDownload, Doing, IsSoundDownload, download_ticket, empty_download, new_download}
 use Rattle.mg_gridfs.specs.Findings as findings
 use Rattle.mg_gridfs.specs.Findings.{BeginsFind, ClientFinding, FindsOn, HearsList, HearsRecord, Opens, OpensFile}
 use Rattle.mg_gridfs.specs.ReadCauses.{cursor_in}
@@ -334,7 +336,7 @@ module _ (d : ClientDownload) where
 
   module _ (wire : ℤ) (b : ClientBucket) where
     file_new : (old new : Awaited) (log log' : LogTold) (f : FileRecord) → OpensFile old new log log' wire b f (findings.opens d) → IsNewDownload d
-    file_new old new log log' f (findings.too_many m breaks none is) = absurd (let bad : findings.opens d ≡ findings.fails (downloads.broken m) = is in cc)
+    file_new old new log log' f (findings.too_many m breaks none is) = absurd (let bad : findings.opens d ≡ findings.fails (broken m) = is in cc)
     file_new old new log log' f (findings.is_empty empty none is) = has_none f empty (same_opened (empty_download f) is)
     file_new old new log log' f (findings.not_built full e why none is) = absurd (let bad : findings.opens d ≡ findings.fails e = is in cc)
     file_new old new log log' f (findings.listed full count counted s new_one on) = list_new f count on.came on.hears

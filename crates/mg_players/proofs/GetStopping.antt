@@ -14,9 +14,11 @@ use Rattle.mg_ops.specs.Naming.{IsNamed}
 use Rattle.mg_cursor.specs.Client as client
 use Rattle.mg_cursor.specs.Client.{ClientCursor, HasNext}
 use Rattle.mg_cursor.specs.Reading.{in_reply, reader_in}
-use Rattle.mg_records.specs.FileRecords.{FileRecord, chunk_count_of}
+use Rattle.mg_chunks.specs.Sizes.{chunk_count_of}
+use Rattle.mg_records.specs.FileRecords.{FileRecord}
 use Rattle.mg_gridfs.specs.Downloaded.{KnowsBy, KnowsChunks, KnowsDownload}
-use Rattle.mg_gridfs.specs.Downloads.{ClientDownload, Doing, IsSoundDownload, SoundBy, idle, missing_chunk, reads}
+use Rattle.mg_chunks.specs.Chunks.{missing_chunk}
+use Rattle.mg_gridfs.specs.Downloads.{ClientDownload, Doing, IsSoundDownload, SoundBy, idle, reads}
 use Rattle.mg_gridfs.specs.ReadCauses.{IsFetching, cursor_in}
 use Rattle.mg_gridfs.specs.Reads as steps
 use Rattle.mg_gridfs.specs.Reads.{Concludes, Fetched, Fills, HandsOut, Reads, ReadsNone, enough, fails, waits}

@@ -79,7 +79,6 @@ pub mod InsertTelling
 pub mod JobTelling
 pub mod Going
 pub mod Drawing
-pub mod OwnTickets
 pub mod Newest
 pub mod Adding
 pub mod Sending

@@ -5,8 +5,8 @@ use Rattle.std.proofs.lemmas.List.Sums.{sum_by-append, sum_by-cons}
 use Rattle.mg_link.specs.Link.{Awaited}
 use Rattle.mg_link.specs.Log.{Call}
 use Rattle.mg_players.specs.Causes.{Course, SentIn, SentNoneBehind}
-use Rattle.mg_players.specs.Counts.{NewestAt, sent_last, was_held}
-use Rattle.mg_script.specs.declared.outcome.Turned.{Turned}
+use Rattle.mg_turns.specs.Counts.{NewestAt, sent_last, was_held}
+use Rattle.mg_turns.specs.declared.turned.Turned.{Turned}
 
 -- ---- one turn of many
 

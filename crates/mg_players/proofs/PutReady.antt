@@ -5,7 +5,7 @@ use Rattle.std.proofs.lemmas.Bool.{le-ltb, lt-ltb}
 use Rattle.mg_link.specs.Link.{Awaited}
 use Rattle.mg_link.specs.Log.{Call}
 use Rattle.mg_server.specs.Owner.{Owner}
-use Rattle.mg_records.specs.FileRecords.{chunk_count_of}
+use Rattle.mg_chunks.specs.Sizes.{chunk_count_of}
 use Rattle.mg_players.specs.Plays.{Places}
 use Rattle.mg_players.specs.Progress.{PutAt, PutReady}
 use Rattle.mg_players.specs.Putting.{Drew, DrewFor}

@@ -12,7 +12,8 @@ use Rattle.mg_options.specs.Fields.{fields_in}
 use Rattle.mg_ops.specs.Naming.{IsNamed}
 use Rattle.mg_ops.proofs.Asking.{asks_to_insert}
 use Rattle.mg_ops.proofs.AskingMore.{asks_for_indexes, asks_to_create, asks_to_delete, asks_to_index}
-use Rattle.mg_gridfs.specs.Commands.{chunks_lines, insert_options, of_file, record_document}
+use Rattle.mg_chunks.specs.Filters.{of_file}
+use Rattle.mg_gridfs.specs.Commands.{chunks_lines, insert_options, record_document}
 use Rattle.mg_gridfs.specs.Causes.{a_creation, a_find, a_listing, an_index}
 use Rattle.mg_gridfs.proofs.Meaning.{any_reads, has_name, index_named, named_in}
 use Rattle.mg_gridfs.specs.Indexes.{keys_of, space_in}

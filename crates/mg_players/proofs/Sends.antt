@@ -29,7 +29,7 @@ use Rattle.mg_players.specs.Follows.{poll_of}
 use Rattle.mg_players.specs.Sends.{IsCommandOf, SendsOnly}
 use Rattle.mg_script.specs.declared.outcome.Answer.{Answer}
 use Rattle.mg_script.specs.declared.outcome.Answer.TheVariants as answers
-use Rattle.mg_script.specs.declared.outcome.Turned.{Turned}
+use Rattle.mg_turns.specs.declared.turned.Turned.{Turned}
 use Rattle.mg_link.proofs.Places.{get_some}
 use Rattle.mg_server.proofs.Adding.{same_command_at}
 use Rattle.mg_change.proofs.Such.{AddsSuch}

@@ -53,7 +53,7 @@ use Rattle.mg_players.proofs.Fallings.{closing_falls, closing_left, kill_of, ope
 use Rattle.mg_players.proofs.Lasting.{Lasts}
 use Rattle.mg_players.proofs.Later.{begins, called_grows, last_begins, so_far_grows}
 use Rattle.mg_players.proofs.Left.{held_few, landing_few}
-use Rattle.mg_players.proofs.OwnTickets.{none_is_not}
+use Rattle.mg_turns.proofs.OwnTickets.{none_is_not}
 use Rattle.mg_players.proofs.Sending.{calls_such, closing_such, opening_such}
 use Rattle.mg_players.proofs.Sends.{for_answered, for_opened, for_so_far, such_adds}
 use Rattle.mg_players.proofs.Whole.{only_now, since_on, whole_answered, whole_going, whole_opened, whole_same}

@@ -7,7 +7,7 @@ use Rattle.std.proofs.lemmas.List.Sums.{sum_by-cons}
 use Rattle.mg_players.specs.Causes.{places_from, places_in, sent_since}
 use Rattle.mg_players.specs.Plays.{Places, all_places}
 use Rattle.mg_players.proofs.Newest.{started_in}
-use Rattle.mg_script.specs.declared.outcome.Turned.{Turned}
+use Rattle.mg_turns.specs.declared.turned.Turned.{Turned}
 
 -- ---- places one behind another
 

@@ -12,7 +12,7 @@ use Rattle.mg_script.specs.Plan.{Task, get, put}
 use Rattle.mg_script.specs.declared.outcome.Ended.{Ended}
 use Rattle.mg_script.specs.declared.outcome.Ended.TheVariants as ended
 use Rattle.mg_script.specs.declared.outcome.Outcome.{Outcome}
-use Rattle.mg_script.specs.declared.outcome.Turned.{Turned}
+use Rattle.mg_turns.specs.declared.turned.Turned.{Turned}
 
 -- a get that fails by a chunk of the file that job j puts listed the chunks behind their removal
 abbrev pub GetBehind : {A : Type 0} → Course → (j i : ℕ) → List Call → PutTask → Ended A → Type 0

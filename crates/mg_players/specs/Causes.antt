@@ -29,7 +29,7 @@ use Rattle.mg_change.specs.Sent as calling
 use Rattle.mg_change.specs.Sent.{Falling, IsSentAt, KillsReplaced}
 use Rattle.mg_ops.specs.Appended.{Appended}
 use Rattle.mg_players.specs.Asking.{AllAskOn}
-use Rattle.mg_players.specs.Counts.{PolledBy, one_if}
+use Rattle.mg_turns.specs.Counts.{PolledBy, one_if}
 use Rattle.mg_players.specs.Drawing.{as_sent, supply_of}
 use Rattle.mg_players.specs.Follows.{FollowedFrom, IsArgsFor, IsUnfinished, poll_of}
 use Rattle.mg_players.specs.Buckets.{plain_bucket}
@@ -52,7 +52,7 @@ use Rattle.mg_script.specs.declared.outcome.Answer.TheVariants as answers
 use Rattle.mg_script.specs.declared.outcome.Ended.{Ended}
 use Rattle.mg_script.specs.declared.outcome.Ended.TheVariants as ended
 use Rattle.mg_script.specs.declared.outcome.Outcome.{Outcome}
-use Rattle.mg_script.specs.declared.outcome.Turned.{Turned}
+use Rattle.mg_turns.specs.declared.turned.Turned.{Turned}
 
 -- ---- which call sent what
 

@@ -2,7 +2,6 @@ pub mod Buckets
 pub mod Kinds
 pub mod Plays
 pub mod Playing
-pub mod Counts
 pub mod Runs
 pub mod Follows
 pub mod Gets

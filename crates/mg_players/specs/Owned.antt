@@ -7,7 +7,7 @@ use Rattle.mg_link.specs.Log.{Call}
 use Rattle.mg_server.specs.Owner.{IsOf, Owner, Owns}
 use Rattle.mg_server.specs.Standing.{Names, OpensId, Stands, TookEffect}
 use Rattle.mg_players.specs.Causes.{Course, course, places_of}
-use Rattle.mg_script.specs.declared.outcome.Turned.{Turned}
+use Rattle.mg_turns.specs.declared.turned.Turned.{Turned}
 
 -- a command at one of these places opened the cursor
 pub record IsGivenBy (calls : List Call) (history : List Step) (places : List ℕ) (x : ℤ) : Type 0 where

@@ -1,6 +1,6 @@
 -- How far each job comes by its turns.
 use Rattle.std.specs.Prelude.{◌≡◌, ◌+◌, ◌-◌, ◌*◌, ◌<◌, ◌≤◌, ◌⊎◌, ℕ, Bool, true, false, cond, nat_eq, List, [], ◌∷◌, length, Option, Some, IsSome, is_some, slice_get}
-use Rattle.mg_players.specs.Counts.{RoseIf}
+use Rattle.mg_turns.specs.Counts.{RoseIf}
 use Rattle.mg_change.specs.ClientStreams.{stream_ticket}
 use Rattle.mg_change.specs.ClosingStreams.{stream_closing_ticket}
 use Rattle.mg_change.specs.OpeningView.{ticket_in}
@@ -16,7 +16,7 @@ use Rattle.mg_script.specs.Plan.{Task, insert, follow, put, get}
 use Rattle.mg_script.specs.declared.outcome.Ended.{Ended}
 use Rattle.mg_script.specs.declared.outcome.Ended.TheVariants as ended
 use Rattle.mg_script.specs.declared.outcome.Outcome.{Outcome}
-use Rattle.mg_script.specs.declared.outcome.Turned.{Turned}
+use Rattle.mg_turns.specs.declared.turned.Turned.{Turned}
 use Rattle.mg_players.specs.declared.follow.FollowPlayer.{FollowPlayer}
 use Rattle.mg_players.specs.declared.get.GetPlayer.{GetPlayer}
 use Rattle.mg_players.specs.declared.get.GetStage.{GetStage}

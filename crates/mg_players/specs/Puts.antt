@@ -11,7 +11,7 @@ use Rattle.mg_link.specs.declared.error.BadArgument.TheVariants as argument
 use Rattle.mg_link.specs.declared.error.Error.{Error}
 use Rattle.mg_link.specs.declared.error.ErrorKind.TheVariants as kind
 use Rattle.mg_link.specs.declared.error.Malformed.{Malformed}
-use Rattle.mg_records.specs.FileRecords.{chunk_count_of}
+use Rattle.mg_chunks.specs.Sizes.{chunk_count_of}
 use Rattle.mg_ops.specs.Naming.{IsNamed}
 use Rattle.mg_gridfs.specs.Buckets.{ClientBucket}
 use Rattle.mg_gridfs.specs.Cursors.{KnowsCursors, upload_owner}

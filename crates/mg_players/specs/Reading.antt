@@ -21,9 +21,11 @@ use Rattle.mg_cursor.specs.Causes.{MoreFails}
 use Rattle.mg_cursor.specs.Client as client
 use Rattle.mg_cursor.specs.Client.{ClientCursor, at_rest, holds}
 use Rattle.mg_cursor.specs.Polling.{CannotAsk}
-use Rattle.mg_records.specs.FileRecords.{FileRecord, chunk_count_of}
+use Rattle.mg_chunks.specs.Sizes.{chunk_count_of}
+use Rattle.mg_records.specs.FileRecords.{FileRecord}
 use Rattle.mg_gridfs.specs.Downloaded.{AreReceived, chunks_query}
-use Rattle.mg_gridfs.specs.Downloads.{ClientDownload, Doing, ended, idle, judged, missing_chunk, most_empty, reads, spoiled}
+use Rattle.mg_chunks.specs.Chunks.{judged, missing_chunk}
+use Rattle.mg_gridfs.specs.Downloads.{ClientDownload, Doing, ended, idle, most_empty, reads, sizes_of, spoiled}
 use Rattle.mg_gridfs.specs.ReadCauses.{cursor_in}
 use Rattle.mg_players.specs.Gets.{GetTask, chunks_find, no_manner}
 use Rattle.mg_players.specs.InTurn.{AloneBehind, AreInTurn, HasSentAt, NoneBehind, empty_by, empty_held, empty_taken, newest}
@@ -33,7 +35,7 @@ use Rattle.mg_players.specs.InTurn.{AloneBehind, AreInTurn, HasSentAt, NoneBehin
 -- Documents that stand as the chunks of a file are not what its record says, by which they are so many, as the error tells: one is the first that differs; or all are
 -- in order, and not as many.
 pub data Differ (f : FileRecord) (count : ℕ) (stood : List Fields) (e : Error) : Type 0 where
-  one_differs : (before : List Fields) (chunks : List (List ℕ)) (d : Fields) (left : List Fields) → stood ≡ before ++ d ∷ left → AreReceived f 0 chunks before → judged f (length chunks) d ≡ Err e → Differ f count stood e
+  one_differs : (before : List Fields) (chunks : List (List ℕ)) (d : Fields) (left : List Fields) → stood ≡ before ++ d ∷ left → AreReceived f 0 chunks before → judged (sizes_of f) (length chunks) d ≡ Err e → Differ f count stood e
   miscounted : (chunks : List (List ℕ)) → AreReceived f 0 chunks stood → length chunks ≢ count → e ≡ missing_chunk (length chunks) → Differ f count stood e
 
 -- A reply to the call at this place listed the chunks of the file with this record. In each legal history in which the log stands, those that stood as the call took

@@ -10,7 +10,7 @@ use Rattle.mg_ops.specs.Drawn.{AreLater}
 use Rattle.mg_players.specs.Drawing.{JobHasIds, turn_draws}
 use Rattle.mg_players.specs.Telling.{JobTells, number_of}
 use Rattle.mg_script.specs.Plan.{Task}
-use Rattle.mg_script.specs.declared.outcome.Turned.{Turned}
+use Rattle.mg_turns.specs.declared.turned.Turned.{Turned}
 use Rattle.mg_players.specs.declared.follow.FollowPlayer.{FollowPlayer}
 use Rattle.mg_players.specs.declared.player.Player.{Player}
 use Rattle.mg_players.specs.declared.player.Player.TheVariants as player

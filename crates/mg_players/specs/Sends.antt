@@ -22,7 +22,7 @@ use Rattle.mg_players.specs.PutSends.{InsertsChunks, IsCheckCommand, chunks_remo
 use Rattle.mg_players.specs.Puts.{IsMoment, PutTask, Supply, put_bucket, put_of}
 use Rattle.mg_ops.specs.InsertCauses.{IsInsertOf}
 use Rattle.mg_script.specs.Plan.{Task, insert, follow, put, get}
-use Rattle.mg_script.specs.declared.outcome.Turned.{Turned}
+use Rattle.mg_turns.specs.declared.turned.Turned.{Turned}
 
 -- a command that a follow with such arguments may send
 pub data IsCommandOf (are_its : WatchArgs → Type 0) (command : Fields) : Type 0 where

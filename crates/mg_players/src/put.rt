@@ -5,7 +5,7 @@ ghost use Rattle.mg_link.specs.Errors.{plain};
 ghost use Rattle.mg_link.specs.declared.error.ErrorKind.TheVariants as kinds;
 ghost use Rattle.mg_link.specs.Link.{Later};
 ghost use Rattle.mg_ops.specs.Drawn.{AreLater};
-ghost use Rattle.mg_records.specs.FileRecords.{chunk_count_of};
+ghost use Rattle.mg_chunks.specs.Sizes.{chunk_count_of};
 ghost use Rattle.mg_gridfs.specs.Uploads.{fresh_upload, upload_ticket};
 ghost use Rattle.mg_gridfs.specs.UploadView.{IsUpload, upload_of};
 ghost use Rattle.mg_script.specs.Plan.{pieces};

@@ -4,6 +4,7 @@ use mg_bson::RawDocumentBuf;
 use mg_link::{Error, Log};
 use mg_options::ResumeToken;
 use mg_store::Store;
+use mg_turns::Turned;
 
 /// What a job, or a part of one, came to.
 pub enum Ended<T> {
@@ -89,15 +90,6 @@ impl Drop for Outcome {
             Outcome::Get { bytes: _, ended: _ } => {}
         }
     }
-}
-
-/// What one turn of a job did.
-#[derive(Clone, Copy, Debug, PartialEq, Eq)]
-pub struct Turned {
-    /// How many commands it started.
-    pub started: u64,
-    /// Whether its last poll found no reply yet.
-    pub pended: bool,
 }
 
 /// The outcomes of jobs after their turns.

@@ -18,7 +18,7 @@ use Rattle.mg_store.specs.Stored.{AreOpen}
 use Rattle.mg_store.specs.declared.fate.Fate.{Fate}
 use Rattle.mg_link.specs.Link.{LogTold}
 use Rattle.mg_jobs.specs.Completing.{JobWell}
-use Rattle.mg_players.specs.Counts.{AreNoted, StartedBy}
+use Rattle.mg_turns.specs.Counts.{AreNoted, StartedBy}
 use Rattle.mg_jobs.specs.Fated.{AreItsSteps}
 use Rattle.mg_players.specs.Progress.{AllPlayed, IsPlayed, pends_last, turns_done}
 use Rattle.mg_jobs.specs.Grammar.{NeverGarbled}
@@ -32,14 +32,14 @@ use Rattle.mg_players.specs.Puts.{Supply}
 use Rattle.mg_players.specs.Sends.{MaySend, SendsOnly}
 use Rattle.mg_script.specs.Plan.{Task, tasks}
 use Rattle.mg_script.specs.declared.outcome.Outcome.{Outcome}
-use Rattle.mg_script.specs.declared.outcome.Turned.{Turned}
+use Rattle.mg_turns.specs.declared.turned.Turned.{Turned}
 use Rattle.mg_script.specs.declared.script.Job.{Job}
 use Rattle.mg_players.proofs.Drawing.{played_as_sent, sent_same}
 use Rattle.mg_jobs.proofs.Created.{creations_meet}
 use Rattle.mg_jobs.proofs.Positions.{answered_well}
 use Rattle.mg_jobs.proofs.Refusing.{run_mildly}
 use Rattle.mg_jobs.proofs.RunTaken.{run_ends_in, run_takes, tasks_counted}
-use Rattle.mg_jobs.proofs.Tallies.{noted_rose, turns_counted}
+use Rattle.mg_turns.proofs.Tallies.{noted_rose, turns_counted}
 use Rattle.mg_jobs.proofs.program.run_over.Goals as goal
 
 zero_more : (k : ℕ) → 0 + k ≡ k

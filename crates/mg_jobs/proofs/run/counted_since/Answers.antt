@@ -1,13 +1,13 @@
 use Rattle.std.proofs.Common.{subst, sym}
 use Rattle.mg_link.specs.Link.{Awaited}
-use Rattle.mg_players.specs.Counts.{IsNoted, shown}
+use Rattle.mg_turns.specs.Counts.{IsNoted, shown}
 use Rattle.mg_players.specs.Runs.{Goes}
 use Rattle.mg_players.specs.Playing.{job_ticket}
 use Rattle.mg_players.specs.Plays.{SentAt}
 use Rattle.mg_players.proofs.Advancing.{noted_once, noted_so}
-use Rattle.mg_players.proofs.OwnTickets.{newest_of}
+use Rattle.mg_turns.proofs.OwnTickets.{newest_of}
 use Rattle.mg_jobs.proofs.Showing.{goes_shown}
-use Rattle.mg_jobs.proofs.Tallies.{is_noted}
+use Rattle.mg_turns.proofs.Tallies.{is_noted}
 use Rattle.mg_jobs.proofs.run.counted_since.Goals as goal
 
 pub returns-clause-goes : goal.returns-clause-goes

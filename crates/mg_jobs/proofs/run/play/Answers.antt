@@ -3,10 +3,10 @@ use Rattle.std.specs.List.{All, sum_by}
 use Rattle.std.proofs.lemmas.List.Elements.{All-append, All-cons, All-nil}
 use Rattle.mg_link.proofs.Onward.{later_on, later_same}
 use Rattle.mg_players.specs.Causes.{AllPollOwn}
-use Rattle.mg_players.specs.Counts.{AreNoted, StartedBy}
+use Rattle.mg_turns.specs.Counts.{AreNoted, StartedBy}
 use Rattle.mg_players.specs.Progress.{AllAt}
 use Rattle.mg_players.specs.Telling.{AllTell}
-use Rattle.mg_script.specs.declared.outcome.Turned.{Turned}
+use Rattle.mg_turns.specs.declared.turned.Turned.{Turned}
 use Rattle.std.proofs.lemmas.Option.{slice_get-get_or}
 use Rattle.mg_players.proofs.Advancing.{at_next}
 use Rattle.mg_ops.specs.Drawn.{AreLater}
@@ -14,7 +14,7 @@ use Rattle.mg_players.specs.Drawing.{drawn_in}
 use Rattle.mg_players.proofs.Drawing.{drawn_next, drawn_whole}
 use Rattle.mg_players.proofs.Knowing.{length_take}
 use Rattle.mg_jobs.proofs.Polling.{polls_next, polls_whole}
-use Rattle.mg_jobs.proofs.Tallies.{loses_on, noted_more, started_more}
+use Rattle.mg_turns.proofs.Tallies.{loses_on, noted_more, started_more}
 use Rattle.mg_jobs.proofs.Told.{tell_next, tell_whole}
 use Rattle.mg_jobs.proofs.run.play.Goals as goal
 

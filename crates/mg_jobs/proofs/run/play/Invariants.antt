@@ -2,7 +2,7 @@ use Rattle.std.proofs.Common.{◌≡◌, ℕ, List, [], length, take, false}
 use Rattle.std.specs.List.{All, sum_by}
 use Rattle.mg_link.specs.Link.{Awaited, Later, LogTold}
 use Rattle.mg_players.specs.Causes.{AllPollOwn}
-use Rattle.mg_players.specs.Counts.{AreNoted, LosesNothing, StartedBy}
+use Rattle.mg_turns.specs.Counts.{AreNoted, LosesNothing, StartedBy}
 use Rattle.mg_players.specs.Drawing.{HaveDrawn}
 use Rattle.mg_players.specs.Headline.{DoTasks, Knowing}
 use Rattle.mg_script.specs.Plan.{Task}
@@ -11,7 +11,7 @@ use Rattle.mg_players.specs.Puts.{IsMoment, Supply}
 use Rattle.mg_players.specs.Runs.{AreHeld}
 use Rattle.mg_jobs.specs.Runners.{Stands}
 use Rattle.mg_players.specs.Telling.{AllTell}
-use Rattle.mg_script.specs.declared.outcome.Turned.{Turned}
+use Rattle.mg_turns.specs.declared.turned.Turned.{Turned}
 use Rattle.mg_jobs.proofs.run.play.Given as goal
 
 abbrev pub invariant-loop-number : goal.invariant-loop-number

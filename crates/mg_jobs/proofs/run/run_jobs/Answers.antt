@@ -13,7 +13,7 @@ use Rattle.mg_players.specs.Drawing.{supplied}
 use Rattle.mg_players.proofs.Drawing.{drawn_first, drawn_so}
 use Rattle.mg_jobs.proofs.Waiting.{wait_so}
 use Rattle.mg_jobs.proofs.Polling.{polls_so}
-use Rattle.mg_jobs.proofs.Tallies.{noted_so, pended_so}
+use Rattle.mg_jobs.proofs.Noted.{noted_so, pended_so}
 use Rattle.mg_jobs.proofs.Told.{caused_so, filed_so, followed_so, names_so, sends_so, tell_as, tell_first}
 use Rattle.mg_jobs.proofs.run.run_jobs.Goals as goal
 

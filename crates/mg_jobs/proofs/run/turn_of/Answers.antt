@@ -2,7 +2,7 @@ use Rattle.std.proofs.Common.{refl, sym, ap, subst, ◌∙◌}
 use Rattle.mg_link.specs.Acts.{IsOut, Tickets}
 use Rattle.mg_link.proofs.Onward.{tickets_same}
 use Rattle.mg_players.proofs.Knowing.{turned_not, turned_ready}
-use Rattle.mg_players.specs.Counts.{PolledNewest, was_held}
+use Rattle.mg_turns.specs.Counts.{PolledNewest, was_held}
 use Rattle.mg_players.specs.Drawing.{DrawsAs, DrawsAt, JobHasIds}
 use Rattle.mg_players.proofs.Advancing.{over_turns}
 use Rattle.mg_players.proofs.Drawing.{ended_draws, ended_has}

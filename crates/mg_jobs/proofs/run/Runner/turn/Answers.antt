@@ -4,7 +4,7 @@ use Rattle.std.proofs.lemmas.Option.{slice_get_read}
 use Rattle.std.proofs.lemmas.Result.{err_from_is_err_and}
 use Rattle.mg_players.specs.Runs.{IsSameJob, idle}
 use Rattle.mg_jobs.specs.Runners.{ended_at}
-use Rattle.mg_script.specs.declared.outcome.Turned.{Turned}
+use Rattle.mg_turns.specs.declared.turned.Turned.{Turned}
 use Rattle.mg_players.specs.declared.player.Player.{Player}
 use Rattle.mg_players.proofs.Apart.{apart_as, on_err, same_at, same_job, same_jobs, stands_after}
 use Rattle.mg_players.proofs.Knowing.{knowing_on, tasks_after}
