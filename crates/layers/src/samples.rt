@@ -123,9 +123,9 @@ pub fn json_value(alloc: Global, text: &str) -> Result<Bson, Error> {
 
 /// The bytes of the document that a JSON text stands for.
 pub fn json_bytes(alloc: Global, text: &str) -> Result<RawDocumentBuf, Error> {
-    match json_value(alloc, text)? {
-        Bson::Document(document) => Ok(to_bytes(alloc, &document)?),
-        _ => Err(Error::from(BsonError::Malformed)),
+    match json_value(alloc, text)?.into_document() {
+        Ok(document) => Ok(to_bytes(alloc, &document)?),
+        Err(_) => Err(Error::from(BsonError::Malformed)),
     }
 }
 
