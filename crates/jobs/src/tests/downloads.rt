@@ -4,22 +4,21 @@ ghost use Rattle.mg_link.specs.Places.{out_at};
 ghost use Rattle.mg_gridfs.specs.Downloads.{download_ticket};
 ghost use Rattle.mg_gridfs.specs.DownloadView.{IsDownload, download_of};
 
-use super::files::{bucket, number_of, put_into, size_of, small};
-use super::scripted::error_word;
-use super::{are_found, empty_link, given};
-use layers::{Subject, insert, one_field, owned, text, with, written};
-use mg_bson::{Binary, Bson, DateTime, Document};
+use super::files::bucket;
+use super::scripted::{REPLIES, error_word, link_of};
+use super::{owned, tell, written};
+use mg_bson::Bson;
 use mg_gridfs::{GridFsDownloadStream, ReadPoll};
-use mg_link::{Action, Error, ErrorKind, Step, plain};
-use mg_store::MemLink;
+use mg_link::{Action, Error, ErrorKind, ScriptLink, Step, plain};
 use std::alloc::Global;
+use std::process::Abort;
 
-// Opens a download of the file of this id.
-fn open(alloc: Global, link: &mut MemLink, id: i32) -> Result<GridFsDownloadStream, Error>
+// Opens a download of the file of the id 5.
+fn open(alloc: Global, link: &mut ScriptLink) -> Result<GridFsDownloadStream, Error>
     ensures sound { IfOk result (λ s. IsDownload s) }
     ensures out { IfOk result (λ s. IsOut (out_at link.new.calls) (download_ticket (download_of s))) }
 {
-    let mut opening = bucket(alloc)?.open_download_stream(Bson::Int32(id));
+    let mut opening = bucket(alloc)?.open_download_stream(Bson::Int32(5));
     'polls: for _count in 0..20 {
         match opening.poll(link) {
             Step::Pending(next) => opening = next,
@@ -30,218 +29,123 @@ fn open(alloc: Global, link: &mut MemLink, id: i32) -> Result<GridFsDownloadStre
     Err(plain(ErrorKind::Io))
 }
 
-// The bytes of a read, as a text.
-fn bytes_word(alloc: Global, bytes: &[u8]) -> Result<String, Error> {
-    let text = std::str::from_utf8(bytes).unwrap_or("?");
-    written(format!(in alloc; "/{text}"))
-}
-
-// One read into so much room, and whether it read nothing.
+// One read.
 fn read_word(
-    alloc: Global,
+    rt: &(impl Abort + AllocGlobal),
     download: &mut GridFsDownloadStream,
-    link: &mut MemLink,
+    link: &mut ScriptLink,
     room: &mut [u8],
-) -> Result<(String, bool), Error>
+) -> String
     requires out { IsOut (out_at link.old.calls) (download_ticket (download_of download.old)) }
     requires sound { IsDownload download.old }
     ensures out { IsOut (out_at link.new.calls) (download_ticket (download_of download.new)) }
     ensures sound { IsDownload download.new }
 {
-    let mut ended = false;
-    let word = match download.poll_read(link, room) {
-        ReadPoll::Pending => owned(alloc, "/pending"),
-        ReadPoll::Read(0) => {
-            ended = true;
-            owned(alloc, "/end")
-        }
-        ReadPoll::Read(count) => bytes_word(alloc, &room[..count]),
-        ReadPoll::Failed(error) => error_word(alloc, &error),
-    };
-    Ok((word?, ended))
+    match download.poll_read(link, room) {
+        ReadPoll::Pending => owned(rt, "/pending"),
+        ReadPoll::Read(count) => written(rt, format!(in rt.alloc(); "/{count} bytes")),
+        ReadPoll::Failed(error) => error_word(rt, &error),
+    }
 }
 
-// Reads up to the first read of nothing.
-fn read_words(
-    alloc: Global,
+// Three reads, into room for four bytes.
+fn reads(
+    rt: &(impl Abort + AllocGlobal),
     download: &mut GridFsDownloadStream,
-    link: &mut MemLink,
-    room: &mut [u8],
-) -> Result<String, Error>
+    link: &mut ScriptLink,
+) -> String
     requires out { IsOut (out_at link.old.calls) (download_ticket (download_of download.old)) }
     requires sound { IsDownload download.old }
 {
-    let mut told = String::new(alloc);
-    'reads: for _count in 0..200 {
-        let (word, ended) = read_word(alloc, download, link, room)?;
-        told.push_str(word.as_str())?;
-        if ended {
-            return Ok(told);
-        }
+    let mut told = String::new(rt.alloc());
+    let mut room = vec![in rt.alloc(); 0u8; 4].expect(rt, "memory");
+    'reads: for _count in 0..3 {
+        tell(rt, &mut told, read_word(rt, download, link, &mut room));
     }
-    Ok(told)
+    told
 }
 
-// What is read of the file of this id, into so much room each time.
-fn got(alloc: Global, link: &mut MemLink, id: i32, room: usize) -> Result<String, Error> {
-    let mut room = vec![in alloc; 0u8; room]?;
-    match open(alloc, link, id) {
-        Ok(mut download) => read_words(alloc, &mut download, link, &mut room),
-        Err(error) => written(format!(in alloc; "{error}")),
+/// What a download comes to of which a chunk is missing, by reads behind that too.
+pub(super) fn read(rt: &(impl Abort + AllocGlobal), script: &str) -> String {
+    let mut link = link_of(rt, REPLIES, script, 0);
+    match open(rt.alloc(), &mut link) {
+        Ok(mut download) => reads(rt, &mut download, &mut link),
+        Err(error) => error_word(rt, &error),
     }
 }
 
-// ---- files that were put
+/// How the finds of a record and of its chunks are answered, and what comes of the reads: behind a chunk that is missing nothing
+/// is read any more.
+pub(super) const READS: &str = "rf rc~/4 bytes/chunk 2 is missing/0 bytes";
 
-/// Each line is the size of the chunks, which one need not say, and the room of a read, the pieces of a file, and what is read of it.
-const GETS: &str = "4,2|abc,defghi~/ab/cd/ef/gh/i/end in 12
-4,16|abc,defghi~/abcdefghi/end in 12
-4,9|abc,defghi~/abcdefghi/end in 12
-4,3|abcdefgh~/abc/def/gh/end in 11
-4,8|~/end in 2
-1,1|a,b~/a/b/end in 12
--,100|zzzzzzzzzzzzzzzzzzzzzzzzzzzzzzzzzzzzzzzzzzzzzzzzzzzzzzzzzzzzzzzzzzzzzzzzzzzzzzzzzzzzzzzzzzzzzzzzzzzz~/zzzzzzzzzzzzzzzzzzzzzzzzzzzzzzzzzzzzzzzzzzzzzzzzzzzzzzzzzzzzzzzzzzzzzzzzzzzzzzzzzzzzzzzzzzzzzzzzzzzz/end in 4";
-
-struct Gets;
-
-impl Subject for Gets {
-    // Puts a file over an empty store, and gets it.
-    fn found(alloc: Global, line: &str) -> Result<String, Error> {
-        let (sizes, pieces) = line.split_once('|').unwrap_or((line, ""));
-        let (size, room) = sizes.split_once(',').unwrap_or((sizes, "0"));
-        let mut link = empty_link(alloc);
-        put_into(alloc, &mut link, size_of(size), pieces)?;
-        let told = got(alloc, &mut link, 7, number_of(room).min(100) as usize)?;
-        let commands = link.log().calls().len();
-        written(format!(in alloc; "{told} in {commands}"))
-    }
-}
-
-#[test]
-fn what_was_put_is_got(rt: HostRuntime) {
-    are_found::<Gets>(&rt, "~", GETS);
-}
-
-// ---- files that differ from their records
-
-// The record of a file of so many bytes in chunks of this size.
-fn record(alloc: Global, length: &str, size: &str) -> Result<Document, Error> {
-    let record = one_field(alloc, "_id", Bson::Int32(5))?;
-    let length = i64::try_from(number_of(length)).unwrap_or(0);
-    let record = with(record, "length", Bson::Int64(length))?;
-    let size = i32::try_from(small(size)).unwrap_or(0);
-    let record = with(record, "chunkSize", Bson::Int32(size))?;
-    with(record, "uploadDate", Bson::DateTime(DateTime { millis: 0 }))
-}
-
-// A chunk by its number and its bytes; behind a `t` the bytes are a text.
-fn chunk(alloc: Global, word: &str) -> Result<Document, Error> {
-    let (number, bytes) = word.split_once(':').unwrap_or(("0", word));
-    let data = match bytes.strip_prefix("t") {
-        Some(rest) => text(alloc, rest)?,
-        None => Bson::Binary(Binary {
-            subtype: 0,
-            bytes: Vec::from_slice(alloc, bytes.as_bytes())?,
-        }),
-    };
-    let chunk = one_field(alloc, "files_id", Bson::Int32(5))?;
-    let number = i32::try_from(small(number)).unwrap_or(0);
-    let chunk = with(chunk, "n", Bson::Int32(number))?;
-    with(chunk, "data", data)
-}
-
-// Each chunk has an `_id` of its own, by its place.
-fn chunks(alloc: Global, words: &str) -> Result<Vec<Document>, Error> {
-    let mut documents = Vec::new(alloc);
-    let mut id = 0u8;
-    for word in words.split(' ') {
-        if !word.is_empty() {
-            let chunk = with(chunk(alloc, word)?, "_id", Bson::Int32(i32::from(id)))?;
-            documents.push(chunk)?;
-            id = id.saturating_add(1);
-        }
-    }
-    Ok(documents)
-}
-
-// A store with one file, which has this record and these chunks.
-fn file_in(alloc: Global, sizes: &str, words: &str) -> Result<MemLink, Error> {
-    let (length, size) = sizes.split_once(',').unwrap_or((sizes, "0"));
-    let mut link = empty_link(alloc);
-    let records = vec![in alloc; record(alloc, length, size)?]?;
-    given(alloc, &mut link, insert(alloc, "fs.files", records)?, None)?;
-    let chunks = chunks(alloc, words)?;
-    if !chunks.is_empty() {
-        given(alloc, &mut link, insert(alloc, "fs.chunks", chunks)?, None)?;
-    }
-    Ok(link)
-}
-
-// What is read of a file with this record and these chunks.
-fn differing(alloc: Global, sizes: &str, words: &str, room: usize) -> Result<String, Error> {
-    let mut link = file_in(alloc, sizes, words)?;
-    got(alloc, &mut link, 5, room)
-}
-
-// Puts a file beside another one, and gets both.
-fn beside(alloc: Global) -> Result<String, Error> {
-    let mut link = file_in(alloc, "6,4", "0:abcd 1:ef")?;
-    put_into(alloc, &mut link, Some(4), "uvwxyz")?;
-    let first = got(alloc, &mut link, 5, 16)?;
-    let second = got(alloc, &mut link, 7, 16)?;
-    written(format!(in alloc; "{first} {second}"))
-}
-
-/// Each line is the length of the file and the size of its chunks by its record, the chunks that are there, and what is read: into room
-/// for 4 bytes, and into room for 16.
-const DIFFERING: &str = "10,4|0:abcd 1:efgh 2:ij~/abcd/efgh/ij/end /abcdefghij/end
-10,4|0:abcd 1:efgh~/abcd/chunk 2 is missing/end /chunk 2 is missing/end
-10,4|2:ij 1:efgh 0:abcd~/abcd/efgh/ij/end /abcdefghij/end
-4,4|1:abcd~/chunk 0 is missing/end /chunk 0 is missing/end
-4,4|0:abcd 0:abcd~/chunk 1 is missing/end /chunk 1 is missing/end
-4,4|0:abcd 1:efgh~/abcd/chunk 2 is missing/end /chunk 2 is missing/end
-10,4|0:abc~/chunk 0 has 3 bytes and not 4/end /chunk 0 has 3 bytes and not 4/end
-10,4|0:abcd 1:efgh 2:ijk~/chunk 2 has 3 bytes and not 2/end /chunk 2 has 3 bytes and not 2/end
-4,4|0:tabcd~/invalid response: bad chunk/end /invalid response: bad chunk/end
-8,4|0:abcd 2:tabcd~/invalid response: bad chunk/end /invalid response: bad chunk/end
-0,4|0:abcd~/end /end
-0,4|~/end /end
-4,4|~/chunk 0 is missing/end /chunk 0 is missing/end
-4,0|0:abcd~invalid response: chunk size 0 invalid response: chunk size 0
-9223372036854775807,1|0:a~invalid response: too many chunks invalid response: too many chunks";
-
-struct DifferingChunks;
-
-impl Subject for DifferingChunks {
-    fn found(alloc: Global, line: &str) -> Result<String, Error> {
-        let (sizes, words) = line.split_once('|').unwrap_or((line, ""));
-        let small_room = differing(alloc, sizes, words, 4)?;
-        let large_room = differing(alloc, sizes, words, 16)?;
-        written(format!(in alloc; "{small_room} {large_room}"))
-    }
-}
-
-#[test]
-fn chunks_are_checked(rt: HostRuntime) {
-    are_found::<DifferingChunks>(&rt, "~", DIFFERING);
-}
-
-/// A store of two files, and one of none, and what is read there.
-const OTHERS: &str = "two~/abcdef/end /uvwxyz/end
-none~no file with this id";
-
-struct Others;
-
-impl Subject for Others {
-    fn found(alloc: Global, line: &str) -> Result<String, Error> {
-        match line {
-            "two" => beside(alloc),
-            _ => got(alloc, &mut empty_link(alloc), 5, 4),
-        }
-    }
-}
-
-#[test]
-fn files_stand_beside_others(rt: HostRuntime) {
-    are_found::<Others>(&rt, "~", OTHERS);
-}
+/// Scripts that put files of these chunks and pieces, with what stands in the store then; that get files that were put, by so many
+/// turns; and that get files that differ from their records, or stand beside others. Each has its status and its lines behind it, a `^` behind each.
+pub(super) const RUNS: &str =
+    r#"{"jobs":[{"calls":5,"job":"follow","on":"db"},{"chunk":4,"db":"db","id":7,"job":"put","name":"f","pieces":["616263","646566676869"]}],"order":[0,1,1,1,1,0,0,0,0,0]}~0~job 0 follow opened^job 0 call 0 nothing^job 0 call 1 event {"_id":{"_data":"0000000000000001"},"clusterTime":{"$timestamp":{"i":1,"t":1}},"documentKey":{"_id":{"$oid":"000000000000000000000000"}},"fullDocument":{"_id":{"$oid":"000000000000000000000000"},"data":{"$bytes":"61626364"},"files_id":7,"n":0},"ns":{"coll":"fs.chunks","db":"db"},"operationType":"insert"}^job 0 call 2 event {"_id":{"_data":"0000000000000002"},"clusterTime":{"$timestamp":{"i":1,"t":2}},"documentKey":{"_id":{"$oid":"000000000000000000000001"}},"fullDocument":{"_id":{"$oid":"000000000000000000000001"},"data":{"$bytes":"65666768"},"files_id":7,"n":1},"ns":{"coll":"fs.chunks","db":"db"},"operationType":"insert"}^job 0 call 3 event {"_id":{"_data":"0000000000000003"},"clusterTime":{"$timestamp":{"i":1,"t":3}},"documentKey":{"_id":{"$oid":"000000000000000000000002"}},"fullDocument":{"_id":{"$oid":"000000000000000000000002"},"data":{"$bytes":"69"},"files_id":7,"n":2},"ns":{"coll":"fs.chunks","db":"db"},"operationType":"insert"}^job 0 call 4 event {"_id":{"_data":"0000000000000004"},"clusterTime":{"$timestamp":{"i":1,"t":4}},"documentKey":{"_id":7},"fullDocument":{"_id":7,"chunkSize":4,"filename":"f","length":{"$int64":"9"},"uploadDate":{"$date":0}},"ns":{"coll":"fs.files","db":"db"},"operationType":"insert"}^job 0 token {"_data":"0000000000000004"} alive yes^job 0 follow done^job 1 put ok 9^open none^commands 13^
+{"jobs":[{"calls":4,"job":"follow","on":"db"},{"chunk":4,"db":"db","id":7,"job":"put","name":"f","pieces":["6162636465666768"]}],"order":[0,1,1,1,0,0,0,0]}~0~job 0 follow opened^job 0 call 0 nothing^job 0 call 1 event {"_id":{"_data":"0000000000000001"},"clusterTime":{"$timestamp":{"i":1,"t":1}},"documentKey":{"_id":{"$oid":"000000000000000000000000"}},"fullDocument":{"_id":{"$oid":"000000000000000000000000"},"data":{"$bytes":"61626364"},"files_id":7,"n":0},"ns":{"coll":"fs.chunks","db":"db"},"operationType":"insert"}^job 0 call 2 event {"_id":{"_data":"0000000000000002"},"clusterTime":{"$timestamp":{"i":1,"t":2}},"documentKey":{"_id":{"$oid":"000000000000000000000001"}},"fullDocument":{"_id":{"$oid":"000000000000000000000001"},"data":{"$bytes":"65666768"},"files_id":7,"n":1},"ns":{"coll":"fs.chunks","db":"db"},"operationType":"insert"}^job 0 call 3 event {"_id":{"_data":"0000000000000003"},"clusterTime":{"$timestamp":{"i":1,"t":3}},"documentKey":{"_id":7},"fullDocument":{"_id":7,"chunkSize":4,"filename":"f","length":{"$int64":"8"},"uploadDate":{"$date":0}},"ns":{"coll":"fs.files","db":"db"},"operationType":"insert"}^job 0 token {"_data":"0000000000000003"} alive yes^job 0 follow done^job 1 put ok 8^open none^commands 12^
+{"jobs":[{"calls":2,"job":"follow","on":"db"},{"chunk":4,"db":"db","id":7,"job":"put","name":"f","pieces":[""]}],"order":[0,1,1,1,0,0]}~0~job 0 follow opened^job 0 call 0 nothing^job 0 call 1 event {"_id":{"_data":"0000000000000001"},"clusterTime":{"$timestamp":{"i":1,"t":1}},"documentKey":{"_id":7},"fullDocument":{"_id":7,"chunkSize":4,"filename":"f","length":{"$int64":"0"},"uploadDate":{"$date":0}},"ns":{"coll":"fs.files","db":"db"},"operationType":"insert"}^job 0 token {"_data":"0000000000000001"} alive yes^job 0 follow done^job 1 put ok 0^open none^commands 4^
+{"jobs":[{"calls":3,"job":"follow","on":"db"},{"chunk":4,"db":"db","id":7,"job":"put","name":"f","pieces":["616263"]}],"order":[0,1,1,1,0,0,0]}~0~job 0 follow opened^job 0 call 0 nothing^job 0 call 1 event {"_id":{"_data":"0000000000000001"},"clusterTime":{"$timestamp":{"i":1,"t":1}},"documentKey":{"_id":{"$oid":"000000000000000000000000"}},"fullDocument":{"_id":{"$oid":"000000000000000000000000"},"data":{"$bytes":"616263"},"files_id":7,"n":0},"ns":{"coll":"fs.chunks","db":"db"},"operationType":"insert"}^job 0 call 2 event {"_id":{"_data":"0000000000000002"},"clusterTime":{"$timestamp":{"i":1,"t":2}},"documentKey":{"_id":7},"fullDocument":{"_id":7,"chunkSize":4,"filename":"f","length":{"$int64":"3"},"uploadDate":{"$date":0}},"ns":{"coll":"fs.files","db":"db"},"operationType":"insert"}^job 0 token {"_data":"0000000000000002"} alive yes^job 0 follow done^job 1 put ok 3^open none^commands 5^
+{"jobs":[{"calls":6,"job":"follow","on":"db"},{"chunk":1,"db":"db","id":7,"job":"put","name":"f","pieces":["616263","64"]}],"order":[0,1,1,1,1,0,0,0,0,0,0]}~0~job 0 follow opened^job 0 call 0 nothing^job 0 call 1 event {"_id":{"_data":"0000000000000001"},"clusterTime":{"$timestamp":{"i":1,"t":1}},"documentKey":{"_id":{"$oid":"000000000000000000000000"}},"fullDocument":{"_id":{"$oid":"000000000000000000000000"},"data":{"$bytes":"61"},"files_id":7,"n":0},"ns":{"coll":"fs.chunks","db":"db"},"operationType":"insert"}^job 0 call 2 event {"_id":{"_data":"0000000000000002"},"clusterTime":{"$timestamp":{"i":1,"t":2}},"documentKey":{"_id":{"$oid":"000000000000000000000001"}},"fullDocument":{"_id":{"$oid":"000000000000000000000001"},"data":{"$bytes":"62"},"files_id":7,"n":1},"ns":{"coll":"fs.chunks","db":"db"},"operationType":"insert"}^job 0 call 3 event {"_id":{"_data":"0000000000000003"},"clusterTime":{"$timestamp":{"i":1,"t":3}},"documentKey":{"_id":{"$oid":"000000000000000000000002"}},"fullDocument":{"_id":{"$oid":"000000000000000000000002"},"data":{"$bytes":"63"},"files_id":7,"n":2},"ns":{"coll":"fs.chunks","db":"db"},"operationType":"insert"}^job 0 call 4 event {"_id":{"_data":"0000000000000004"},"clusterTime":{"$timestamp":{"i":1,"t":4}},"documentKey":{"_id":{"$oid":"000000000000000000000003"}},"fullDocument":{"_id":{"$oid":"000000000000000000000003"},"data":{"$bytes":"64"},"files_id":7,"n":3},"ns":{"coll":"fs.chunks","db":"db"},"operationType":"insert"}^job 0 call 5 event {"_id":{"_data":"0000000000000005"},"clusterTime":{"$timestamp":{"i":1,"t":5}},"documentKey":{"_id":7},"fullDocument":{"_id":7,"chunkSize":1,"filename":"f","length":{"$int64":"4"},"uploadDate":{"$date":0}},"ns":{"coll":"fs.files","db":"db"},"operationType":"insert"}^job 0 token {"_data":"0000000000000005"} alive yes^job 0 follow done^job 1 put ok 4^open none^commands 13^
+{"jobs":[{"chunk":0,"db":"db","id":7,"job":"put","name":"f","pieces":["616263"]}],"order":[0,0,0]}~0~job 0 put E10^open none^commands 0^
+{"jobs":[{"chunk":4,"db":"db","id":7,"job":"put","name":"f","pieces":["616263","646566676869"]},{"db":"db","id":7,"job":"get","read":2}],"order":[0,0,0,0,1,1]}~0~job 0 put ok 9^job 1 get unfinished 6162^open none^commands 12^
+{"jobs":[{"chunk":4,"db":"db","id":7,"job":"put","name":"f","pieces":["616263","646566676869"]},{"db":"db","id":7,"job":"get","read":2}],"order":[0,0,0,0,1,1,1]}~0~job 0 put ok 9^job 1 get unfinished 61626364^open none^commands 12^
+{"jobs":[{"chunk":4,"db":"db","id":7,"job":"put","name":"f","pieces":["616263","646566676869"]},{"db":"db","id":7,"job":"get","read":2}],"order":[0,0,0,0,1,1,1,1]}~0~job 0 put ok 9^job 1 get unfinished 616263646566^open none^commands 12^
+{"jobs":[{"chunk":4,"db":"db","id":7,"job":"put","name":"f","pieces":["616263","646566676869"]},{"db":"db","id":7,"job":"get","read":2}],"order":[0,0,0,0,1,1,1,1,1]}~0~job 0 put ok 9^job 1 get unfinished 6162636465666768^open none^commands 12^
+{"jobs":[{"chunk":4,"db":"db","id":7,"job":"put","name":"f","pieces":["616263","646566676869"]},{"db":"db","id":7,"job":"get","read":2}],"order":[0,0,0,0,1,1,1,1,1,1]}~0~job 0 put ok 9^job 1 get unfinished 616263646566676869^open none^commands 12^
+{"jobs":[{"chunk":4,"db":"db","id":7,"job":"put","name":"f","pieces":["616263","646566676869"]},{"db":"db","id":7,"job":"get","read":2}],"order":[0,0,0,0,1,1,1,1,1,1,1]}~0~job 0 put ok 9^job 1 get ok 616263646566676869^open none^commands 12^
+{"jobs":[{"chunk":4,"db":"db","id":7,"job":"put","name":"f","pieces":["616263","646566676869"]},{"db":"db","id":7,"job":"get","read":16}],"order":[0,0,0,0,1,1]}~0~job 0 put ok 9^job 1 get unfinished 616263646566676869^open none^commands 12^
+{"jobs":[{"chunk":4,"db":"db","id":7,"job":"put","name":"f","pieces":["616263","646566676869"]},{"db":"db","id":7,"job":"get","read":16}],"order":[0,0,0,0,1,1,1]}~0~job 0 put ok 9^job 1 get ok 616263646566676869^open none^commands 12^
+{"jobs":[{"chunk":4,"db":"db","id":7,"job":"put","name":"f","pieces":["616263","646566676869"]},{"db":"db","id":7,"job":"get","read":9}],"order":[0,0,0,0,1,1]}~0~job 0 put ok 9^job 1 get unfinished 616263646566676869^open none^commands 12^
+{"jobs":[{"chunk":4,"db":"db","id":7,"job":"put","name":"f","pieces":["616263","646566676869"]},{"db":"db","id":7,"job":"get","read":9}],"order":[0,0,0,0,1,1,1]}~0~job 0 put ok 9^job 1 get ok 616263646566676869^open none^commands 12^
+{"jobs":[{"chunk":4,"db":"db","id":7,"job":"put","name":"f","pieces":["6162636465666768"]},{"db":"db","id":7,"job":"get","read":3}],"order":[0,0,0,1,1]}~0~job 0 put ok 8^job 1 get unfinished 616263^open none^commands 11^
+{"jobs":[{"chunk":4,"db":"db","id":7,"job":"put","name":"f","pieces":["6162636465666768"]},{"db":"db","id":7,"job":"get","read":3}],"order":[0,0,0,1,1,1]}~0~job 0 put ok 8^job 1 get unfinished 616263646566^open none^commands 11^
+{"jobs":[{"chunk":4,"db":"db","id":7,"job":"put","name":"f","pieces":["6162636465666768"]},{"db":"db","id":7,"job":"get","read":3}],"order":[0,0,0,1,1,1,1]}~0~job 0 put ok 8^job 1 get unfinished 6162636465666768^open none^commands 11^
+{"jobs":[{"chunk":4,"db":"db","id":7,"job":"put","name":"f","pieces":["6162636465666768"]},{"db":"db","id":7,"job":"get","read":3}],"order":[0,0,0,1,1,1,1,1]}~0~job 0 put ok 8^job 1 get ok 6162636465666768^open none^commands 11^
+{"jobs":[{"chunk":4,"db":"db","id":7,"job":"put","name":"f","pieces":[""]},{"db":"db","id":7,"job":"get","read":8}],"order":[0,0,0,1,1]}~0~job 0 put ok 0^job 1 get ok -^open none^commands 2^
+{"jobs":[{"chunk":1,"db":"db","id":7,"job":"put","name":"f","pieces":["61","62"]},{"db":"db","id":7,"job":"get","read":1}],"order":[0,0,0,0,1,1]}~0~job 0 put ok 2^job 1 get unfinished 61^open none^commands 12^
+{"jobs":[{"chunk":1,"db":"db","id":7,"job":"put","name":"f","pieces":["61","62"]},{"db":"db","id":7,"job":"get","read":1}],"order":[0,0,0,0,1,1,1]}~0~job 0 put ok 2^job 1 get unfinished 6162^open none^commands 12^
+{"jobs":[{"chunk":1,"db":"db","id":7,"job":"put","name":"f","pieces":["61","62"]},{"db":"db","id":7,"job":"get","read":1}],"order":[0,0,0,0,1,1,1,1]}~0~job 0 put ok 2^job 1 get ok 6162^open none^commands 12^
+{"jobs":[{"chunk":261120,"db":"db","id":7,"job":"put","name":"f","pieces":["7a7a7a7a7a7a7a7a7a7a7a7a7a7a7a7a7a7a7a7a7a7a7a7a7a7a7a7a7a7a7a7a7a7a7a7a7a7a7a7a7a7a7a7a7a7a7a7a7a7a7a7a7a7a7a7a7a7a7a7a7a7a7a7a7a7a7a7a7a7a7a7a7a7a7a7a7a7a7a7a7a7a7a7a7a7a7a7a7a7a7a7a7a7a7a7a7a7a7a7a"]},{"db":"db","id":7,"job":"get","read":100}],"order":[0,0,0,1,1]}~0~job 0 put ok 100^job 1 get unfinished 7a7a7a7a7a7a7a7a7a7a7a7a7a7a7a7a7a7a7a7a7a7a7a7a7a7a7a7a7a7a7a7a7a7a7a7a7a7a7a7a7a7a7a7a7a7a7a7a7a7a7a7a7a7a7a7a7a7a7a7a7a7a7a7a7a7a7a7a7a7a7a7a7a7a7a7a7a7a7a7a7a7a7a7a7a7a7a7a7a7a7a7a7a7a7a7a7a7a7a7a^open none^commands 4^
+{"jobs":[{"chunk":261120,"db":"db","id":7,"job":"put","name":"f","pieces":["7a7a7a7a7a7a7a7a7a7a7a7a7a7a7a7a7a7a7a7a7a7a7a7a7a7a7a7a7a7a7a7a7a7a7a7a7a7a7a7a7a7a7a7a7a7a7a7a7a7a7a7a7a7a7a7a7a7a7a7a7a7a7a7a7a7a7a7a7a7a7a7a7a7a7a7a7a7a7a7a7a7a7a7a7a7a7a7a7a7a7a7a7a7a7a7a7a7a7a7a"]},{"db":"db","id":7,"job":"get","read":100}],"order":[0,0,0,1,1,1]}~0~job 0 put ok 100^job 1 get ok 7a7a7a7a7a7a7a7a7a7a7a7a7a7a7a7a7a7a7a7a7a7a7a7a7a7a7a7a7a7a7a7a7a7a7a7a7a7a7a7a7a7a7a7a7a7a7a7a7a7a7a7a7a7a7a7a7a7a7a7a7a7a7a7a7a7a7a7a7a7a7a7a7a7a7a7a7a7a7a7a7a7a7a7a7a7a7a7a7a7a7a7a7a7a7a7a7a7a7a7a^open none^commands 4^
+{"jobs":[{"docs":[{"_id":5,"chunkSize":4,"length":{"$int64":"10"},"uploadDate":{"$date":0}}],"job":"insert","ns":"db.fs.files"},{"docs":[{"_id":0,"data":{"$bytes":"61626364"},"files_id":5,"n":0},{"_id":1,"data":{"$bytes":"65666768"},"files_id":5,"n":1},{"_id":2,"data":{"$bytes":"696a"},"files_id":5,"n":2}],"job":"insert","ns":"db.fs.chunks"},{"db":"db","id":5,"job":"get","read":4}],"order":[0,1,2,2]}~0~job 0 insert ok 1^job 1 insert ok 3^job 2 get unfinished 61626364^open none^commands 4^
+{"jobs":[{"docs":[{"_id":5,"chunkSize":4,"length":{"$int64":"10"},"uploadDate":{"$date":0}}],"job":"insert","ns":"db.fs.files"},{"docs":[{"_id":0,"data":{"$bytes":"61626364"},"files_id":5,"n":0},{"_id":1,"data":{"$bytes":"65666768"},"files_id":5,"n":1},{"_id":2,"data":{"$bytes":"696a"},"files_id":5,"n":2}],"job":"insert","ns":"db.fs.chunks"},{"db":"db","id":5,"job":"get","read":4}],"order":[0,1,2,2,2]}~0~job 0 insert ok 1^job 1 insert ok 3^job 2 get unfinished 6162636465666768^open none^commands 4^
+{"jobs":[{"docs":[{"_id":5,"chunkSize":4,"length":{"$int64":"10"},"uploadDate":{"$date":0}}],"job":"insert","ns":"db.fs.files"},{"docs":[{"_id":0,"data":{"$bytes":"61626364"},"files_id":5,"n":0},{"_id":1,"data":{"$bytes":"65666768"},"files_id":5,"n":1},{"_id":2,"data":{"$bytes":"696a"},"files_id":5,"n":2}],"job":"insert","ns":"db.fs.chunks"},{"db":"db","id":5,"job":"get","read":4}],"order":[0,1,2,2,2,2]}~0~job 0 insert ok 1^job 1 insert ok 3^job 2 get unfinished 6162636465666768696a^open none^commands 4^
+{"jobs":[{"docs":[{"_id":5,"chunkSize":4,"length":{"$int64":"10"},"uploadDate":{"$date":0}}],"job":"insert","ns":"db.fs.files"},{"docs":[{"_id":0,"data":{"$bytes":"61626364"},"files_id":5,"n":0},{"_id":1,"data":{"$bytes":"65666768"},"files_id":5,"n":1},{"_id":2,"data":{"$bytes":"696a"},"files_id":5,"n":2}],"job":"insert","ns":"db.fs.chunks"},{"db":"db","id":5,"job":"get","read":4}],"order":[0,1,2,2,2,2,2]}~0~job 0 insert ok 1^job 1 insert ok 3^job 2 get ok 6162636465666768696a^open none^commands 4^
+{"jobs":[{"docs":[{"_id":5,"chunkSize":4,"length":{"$int64":"10"},"uploadDate":{"$date":0}}],"job":"insert","ns":"db.fs.files"},{"docs":[{"_id":0,"data":{"$bytes":"61626364"},"files_id":5,"n":0},{"_id":1,"data":{"$bytes":"65666768"},"files_id":5,"n":1},{"_id":2,"data":{"$bytes":"696a"},"files_id":5,"n":2}],"job":"insert","ns":"db.fs.chunks"},{"db":"db","id":5,"job":"get","read":16}],"order":[0,1,2,2]}~0~job 0 insert ok 1^job 1 insert ok 3^job 2 get unfinished 6162636465666768696a^open none^commands 4^
+{"jobs":[{"docs":[{"_id":5,"chunkSize":4,"length":{"$int64":"10"},"uploadDate":{"$date":0}}],"job":"insert","ns":"db.fs.files"},{"docs":[{"_id":0,"data":{"$bytes":"61626364"},"files_id":5,"n":0},{"_id":1,"data":{"$bytes":"65666768"},"files_id":5,"n":1},{"_id":2,"data":{"$bytes":"696a"},"files_id":5,"n":2}],"job":"insert","ns":"db.fs.chunks"},{"db":"db","id":5,"job":"get","read":16}],"order":[0,1,2,2,2]}~0~job 0 insert ok 1^job 1 insert ok 3^job 2 get ok 6162636465666768696a^open none^commands 4^
+{"jobs":[{"docs":[{"_id":5,"chunkSize":4,"length":{"$int64":"10"},"uploadDate":{"$date":0}}],"job":"insert","ns":"db.fs.files"},{"docs":[{"_id":0,"data":{"$bytes":"61626364"},"files_id":5,"n":0},{"_id":1,"data":{"$bytes":"65666768"},"files_id":5,"n":1}],"job":"insert","ns":"db.fs.chunks"},{"db":"db","id":5,"job":"get","read":4}],"order":[0,1,2,2]}~0~job 0 insert ok 1^job 1 insert ok 2^job 2 get unfinished 61626364^open none^commands 4^
+{"jobs":[{"docs":[{"_id":5,"chunkSize":4,"length":{"$int64":"10"},"uploadDate":{"$date":0}}],"job":"insert","ns":"db.fs.files"},{"docs":[{"_id":0,"data":{"$bytes":"61626364"},"files_id":5,"n":0},{"_id":1,"data":{"$bytes":"65666768"},"files_id":5,"n":1}],"job":"insert","ns":"db.fs.chunks"},{"db":"db","id":5,"job":"get","read":4}],"order":[0,1,2,2,2]}~0~job 0 insert ok 1^job 1 insert ok 2^job 2 get E11c 2 61626364^open none^commands 4^
+{"jobs":[{"docs":[{"_id":5,"chunkSize":4,"length":{"$int64":"10"},"uploadDate":{"$date":0}}],"job":"insert","ns":"db.fs.files"},{"docs":[{"_id":0,"data":{"$bytes":"61626364"},"files_id":5,"n":0},{"_id":1,"data":{"$bytes":"65666768"},"files_id":5,"n":1}],"job":"insert","ns":"db.fs.chunks"},{"db":"db","id":5,"job":"get","read":16}],"order":[0,1,2,2]}~0~job 0 insert ok 1^job 1 insert ok 2^job 2 get E11c 2 -^open none^commands 4^
+{"jobs":[{"docs":[{"_id":5,"chunkSize":4,"length":{"$int64":"10"},"uploadDate":{"$date":0}}],"job":"insert","ns":"db.fs.files"},{"docs":[{"_id":0,"data":{"$bytes":"696a"},"files_id":5,"n":2},{"_id":1,"data":{"$bytes":"65666768"},"files_id":5,"n":1},{"_id":2,"data":{"$bytes":"61626364"},"files_id":5,"n":0}],"job":"insert","ns":"db.fs.chunks"},{"db":"db","id":5,"job":"get","read":4}],"order":[0,1,2,2]}~0~job 0 insert ok 1^job 1 insert ok 3^job 2 get unfinished 61626364^open none^commands 4^
+{"jobs":[{"docs":[{"_id":5,"chunkSize":4,"length":{"$int64":"10"},"uploadDate":{"$date":0}}],"job":"insert","ns":"db.fs.files"},{"docs":[{"_id":0,"data":{"$bytes":"696a"},"files_id":5,"n":2},{"_id":1,"data":{"$bytes":"65666768"},"files_id":5,"n":1},{"_id":2,"data":{"$bytes":"61626364"},"files_id":5,"n":0}],"job":"insert","ns":"db.fs.chunks"},{"db":"db","id":5,"job":"get","read":4}],"order":[0,1,2,2,2]}~0~job 0 insert ok 1^job 1 insert ok 3^job 2 get unfinished 6162636465666768^open none^commands 4^
+{"jobs":[{"docs":[{"_id":5,"chunkSize":4,"length":{"$int64":"10"},"uploadDate":{"$date":0}}],"job":"insert","ns":"db.fs.files"},{"docs":[{"_id":0,"data":{"$bytes":"696a"},"files_id":5,"n":2},{"_id":1,"data":{"$bytes":"65666768"},"files_id":5,"n":1},{"_id":2,"data":{"$bytes":"61626364"},"files_id":5,"n":0}],"job":"insert","ns":"db.fs.chunks"},{"db":"db","id":5,"job":"get","read":4}],"order":[0,1,2,2,2,2]}~0~job 0 insert ok 1^job 1 insert ok 3^job 2 get unfinished 6162636465666768696a^open none^commands 4^
+{"jobs":[{"docs":[{"_id":5,"chunkSize":4,"length":{"$int64":"10"},"uploadDate":{"$date":0}}],"job":"insert","ns":"db.fs.files"},{"docs":[{"_id":0,"data":{"$bytes":"696a"},"files_id":5,"n":2},{"_id":1,"data":{"$bytes":"65666768"},"files_id":5,"n":1},{"_id":2,"data":{"$bytes":"61626364"},"files_id":5,"n":0}],"job":"insert","ns":"db.fs.chunks"},{"db":"db","id":5,"job":"get","read":4}],"order":[0,1,2,2,2,2,2]}~0~job 0 insert ok 1^job 1 insert ok 3^job 2 get ok 6162636465666768696a^open none^commands 4^
+{"jobs":[{"docs":[{"_id":5,"chunkSize":4,"length":{"$int64":"10"},"uploadDate":{"$date":0}}],"job":"insert","ns":"db.fs.files"},{"docs":[{"_id":0,"data":{"$bytes":"696a"},"files_id":5,"n":2},{"_id":1,"data":{"$bytes":"65666768"},"files_id":5,"n":1},{"_id":2,"data":{"$bytes":"61626364"},"files_id":5,"n":0}],"job":"insert","ns":"db.fs.chunks"},{"db":"db","id":5,"job":"get","read":16}],"order":[0,1,2,2]}~0~job 0 insert ok 1^job 1 insert ok 3^job 2 get unfinished 6162636465666768696a^open none^commands 4^
+{"jobs":[{"docs":[{"_id":5,"chunkSize":4,"length":{"$int64":"10"},"uploadDate":{"$date":0}}],"job":"insert","ns":"db.fs.files"},{"docs":[{"_id":0,"data":{"$bytes":"696a"},"files_id":5,"n":2},{"_id":1,"data":{"$bytes":"65666768"},"files_id":5,"n":1},{"_id":2,"data":{"$bytes":"61626364"},"files_id":5,"n":0}],"job":"insert","ns":"db.fs.chunks"},{"db":"db","id":5,"job":"get","read":16}],"order":[0,1,2,2,2]}~0~job 0 insert ok 1^job 1 insert ok 3^job 2 get ok 6162636465666768696a^open none^commands 4^
+{"jobs":[{"docs":[{"_id":5,"chunkSize":4,"length":{"$int64":"4"},"uploadDate":{"$date":0}}],"job":"insert","ns":"db.fs.files"},{"docs":[{"_id":0,"data":{"$bytes":"61626364"},"files_id":5,"n":1}],"job":"insert","ns":"db.fs.chunks"},{"db":"db","id":5,"job":"get","read":4}],"order":[0,1,2,2]}~0~job 0 insert ok 1^job 1 insert ok 1^job 2 get E11c 0 -^open none^commands 4^
+{"jobs":[{"docs":[{"_id":5,"chunkSize":4,"length":{"$int64":"4"},"uploadDate":{"$date":0}}],"job":"insert","ns":"db.fs.files"},{"docs":[{"_id":0,"data":{"$bytes":"61626364"},"files_id":5,"n":1}],"job":"insert","ns":"db.fs.chunks"},{"db":"db","id":5,"job":"get","read":16}],"order":[0,1,2,2]}~0~job 0 insert ok 1^job 1 insert ok 1^job 2 get E11c 0 -^open none^commands 4^
+{"jobs":[{"docs":[{"_id":5,"chunkSize":4,"length":{"$int64":"4"},"uploadDate":{"$date":0}}],"job":"insert","ns":"db.fs.files"},{"docs":[{"_id":0,"data":{"$bytes":"61626364"},"files_id":5,"n":0},{"_id":1,"data":{"$bytes":"61626364"},"files_id":5,"n":0}],"job":"insert","ns":"db.fs.chunks"},{"db":"db","id":5,"job":"get","read":4}],"order":[0,1,2,2]}~0~job 0 insert ok 1^job 1 insert ok 2^job 2 get E11c 1 -^open none^commands 4^
+{"jobs":[{"docs":[{"_id":5,"chunkSize":4,"length":{"$int64":"4"},"uploadDate":{"$date":0}}],"job":"insert","ns":"db.fs.files"},{"docs":[{"_id":0,"data":{"$bytes":"61626364"},"files_id":5,"n":0},{"_id":1,"data":{"$bytes":"61626364"},"files_id":5,"n":0}],"job":"insert","ns":"db.fs.chunks"},{"db":"db","id":5,"job":"get","read":16}],"order":[0,1,2,2]}~0~job 0 insert ok 1^job 1 insert ok 2^job 2 get E11c 1 -^open none^commands 4^
+{"jobs":[{"docs":[{"_id":5,"chunkSize":4,"length":{"$int64":"4"},"uploadDate":{"$date":0}}],"job":"insert","ns":"db.fs.files"},{"docs":[{"_id":0,"data":{"$bytes":"61626364"},"files_id":5,"n":0},{"_id":1,"data":{"$bytes":"65666768"},"files_id":5,"n":1}],"job":"insert","ns":"db.fs.chunks"},{"db":"db","id":5,"job":"get","read":4}],"order":[0,1,2,2]}~0~job 0 insert ok 1^job 1 insert ok 2^job 2 get unfinished 61626364^open none^commands 4^
+{"jobs":[{"docs":[{"_id":5,"chunkSize":4,"length":{"$int64":"4"},"uploadDate":{"$date":0}}],"job":"insert","ns":"db.fs.files"},{"docs":[{"_id":0,"data":{"$bytes":"61626364"},"files_id":5,"n":0},{"_id":1,"data":{"$bytes":"65666768"},"files_id":5,"n":1}],"job":"insert","ns":"db.fs.chunks"},{"db":"db","id":5,"job":"get","read":4}],"order":[0,1,2,2,2]}~0~job 0 insert ok 1^job 1 insert ok 2^job 2 get E11c 2 61626364^open none^commands 4^
+{"jobs":[{"docs":[{"_id":5,"chunkSize":4,"length":{"$int64":"4"},"uploadDate":{"$date":0}}],"job":"insert","ns":"db.fs.files"},{"docs":[{"_id":0,"data":{"$bytes":"61626364"},"files_id":5,"n":0},{"_id":1,"data":{"$bytes":"65666768"},"files_id":5,"n":1}],"job":"insert","ns":"db.fs.chunks"},{"db":"db","id":5,"job":"get","read":16}],"order":[0,1,2,2]}~0~job 0 insert ok 1^job 1 insert ok 2^job 2 get E11c 2 -^open none^commands 4^
+{"jobs":[{"docs":[{"_id":5,"chunkSize":4,"length":{"$int64":"10"},"uploadDate":{"$date":0}}],"job":"insert","ns":"db.fs.files"},{"docs":[{"_id":0,"data":{"$bytes":"616263"},"files_id":5,"n":0}],"job":"insert","ns":"db.fs.chunks"},{"db":"db","id":5,"job":"get","read":4}],"order":[0,1,2,2]}~0~job 0 insert ok 1^job 1 insert ok 1^job 2 get E11d 0 -^open none^commands 4^
+{"jobs":[{"docs":[{"_id":5,"chunkSize":4,"length":{"$int64":"10"},"uploadDate":{"$date":0}}],"job":"insert","ns":"db.fs.files"},{"docs":[{"_id":0,"data":{"$bytes":"616263"},"files_id":5,"n":0}],"job":"insert","ns":"db.fs.chunks"},{"db":"db","id":5,"job":"get","read":16}],"order":[0,1,2,2]}~0~job 0 insert ok 1^job 1 insert ok 1^job 2 get E11d 0 -^open none^commands 4^
+{"jobs":[{"docs":[{"_id":5,"chunkSize":4,"length":{"$int64":"10"},"uploadDate":{"$date":0}}],"job":"insert","ns":"db.fs.files"},{"docs":[{"_id":0,"data":{"$bytes":"61626364"},"files_id":5,"n":0},{"_id":1,"data":{"$bytes":"65666768"},"files_id":5,"n":1},{"_id":2,"data":{"$bytes":"696a6b"},"files_id":5,"n":2}],"job":"insert","ns":"db.fs.chunks"},{"db":"db","id":5,"job":"get","read":4}],"order":[0,1,2,2]}~0~job 0 insert ok 1^job 1 insert ok 3^job 2 get E11d 2 -^open none^commands 4^
+{"jobs":[{"docs":[{"_id":5,"chunkSize":4,"length":{"$int64":"10"},"uploadDate":{"$date":0}}],"job":"insert","ns":"db.fs.files"},{"docs":[{"_id":0,"data":{"$bytes":"61626364"},"files_id":5,"n":0},{"_id":1,"data":{"$bytes":"65666768"},"files_id":5,"n":1},{"_id":2,"data":{"$bytes":"696a6b"},"files_id":5,"n":2}],"job":"insert","ns":"db.fs.chunks"},{"db":"db","id":5,"job":"get","read":16}],"order":[0,1,2,2]}~0~job 0 insert ok 1^job 1 insert ok 3^job 2 get E11d 2 -^open none^commands 4^
+{"jobs":[{"docs":[{"_id":5,"chunkSize":4,"length":{"$int64":"4"},"uploadDate":{"$date":0}}],"job":"insert","ns":"db.fs.files"},{"docs":[{"_id":0,"data":"abcd","files_id":5,"n":0}],"job":"insert","ns":"db.fs.chunks"},{"db":"db","id":5,"job":"get","read":4}],"order":[0,1,2,2]}~0~job 0 insert ok 1^job 1 insert ok 1^job 2 get E6 -^open none^commands 4^
+{"jobs":[{"docs":[{"_id":5,"chunkSize":4,"length":{"$int64":"4"},"uploadDate":{"$date":0}}],"job":"insert","ns":"db.fs.files"},{"docs":[{"_id":0,"data":"abcd","files_id":5,"n":0}],"job":"insert","ns":"db.fs.chunks"},{"db":"db","id":5,"job":"get","read":16}],"order":[0,1,2,2]}~0~job 0 insert ok 1^job 1 insert ok 1^job 2 get E6 -^open none^commands 4^
+{"jobs":[{"docs":[{"_id":5,"chunkSize":4,"length":{"$int64":"8"},"uploadDate":{"$date":0}}],"job":"insert","ns":"db.fs.files"},{"docs":[{"_id":0,"data":{"$bytes":"61626364"},"files_id":5,"n":0},{"_id":1,"data":"abcd","files_id":5,"n":2}],"job":"insert","ns":"db.fs.chunks"},{"db":"db","id":5,"job":"get","read":4}],"order":[0,1,2,2]}~0~job 0 insert ok 1^job 1 insert ok 2^job 2 get E6 -^open none^commands 4^
+{"jobs":[{"docs":[{"_id":5,"chunkSize":4,"length":{"$int64":"8"},"uploadDate":{"$date":0}}],"job":"insert","ns":"db.fs.files"},{"docs":[{"_id":0,"data":{"$bytes":"61626364"},"files_id":5,"n":0},{"_id":1,"data":"abcd","files_id":5,"n":2}],"job":"insert","ns":"db.fs.chunks"},{"db":"db","id":5,"job":"get","read":16}],"order":[0,1,2,2]}~0~job 0 insert ok 1^job 1 insert ok 2^job 2 get E6 -^open none^commands 4^
+{"jobs":[{"docs":[{"_id":5,"chunkSize":4,"length":{"$int64":"0"},"uploadDate":{"$date":0}}],"job":"insert","ns":"db.fs.files"},{"docs":[{"_id":0,"data":{"$bytes":"61626364"},"files_id":5,"n":0}],"job":"insert","ns":"db.fs.chunks"},{"db":"db","id":5,"job":"get","read":4}],"order":[0,1,2,2]}~0~job 0 insert ok 1^job 1 insert ok 1^job 2 get ok -^open none^commands 3^
+{"jobs":[{"docs":[{"_id":5,"chunkSize":4,"length":{"$int64":"0"},"uploadDate":{"$date":0}}],"job":"insert","ns":"db.fs.files"},{"docs":[{"_id":0,"data":{"$bytes":"61626364"},"files_id":5,"n":0}],"job":"insert","ns":"db.fs.chunks"},{"db":"db","id":5,"job":"get","read":16}],"order":[0,1,2,2]}~0~job 0 insert ok 1^job 1 insert ok 1^job 2 get ok -^open none^commands 3^
+{"jobs":[{"docs":[{"_id":5,"chunkSize":4,"length":{"$int64":"0"},"uploadDate":{"$date":0}}],"job":"insert","ns":"db.fs.files"},{"db":"db","id":5,"job":"get","read":4}],"order":[0,1,1]}~0~job 0 insert ok 1^job 1 get ok -^open none^commands 2^
+{"jobs":[{"docs":[{"_id":5,"chunkSize":4,"length":{"$int64":"0"},"uploadDate":{"$date":0}}],"job":"insert","ns":"db.fs.files"},{"db":"db","id":5,"job":"get","read":16}],"order":[0,1,1]}~0~job 0 insert ok 1^job 1 get ok -^open none^commands 2^
+{"jobs":[{"docs":[{"_id":5,"chunkSize":4,"length":{"$int64":"4"},"uploadDate":{"$date":0}}],"job":"insert","ns":"db.fs.files"},{"db":"db","id":5,"job":"get","read":4}],"order":[0,1,1]}~0~job 0 insert ok 1^job 1 get E11c 0 -^open none^commands 3^
+{"jobs":[{"docs":[{"_id":5,"chunkSize":4,"length":{"$int64":"4"},"uploadDate":{"$date":0}}],"job":"insert","ns":"db.fs.files"},{"db":"db","id":5,"job":"get","read":16}],"order":[0,1,1]}~0~job 0 insert ok 1^job 1 get E11c 0 -^open none^commands 3^
+{"jobs":[{"docs":[{"_id":5,"chunkSize":0,"length":{"$int64":"4"},"uploadDate":{"$date":0}}],"job":"insert","ns":"db.fs.files"},{"docs":[{"_id":0,"data":{"$bytes":"61626364"},"files_id":5,"n":0}],"job":"insert","ns":"db.fs.chunks"},{"db":"db","id":5,"job":"get","read":4}],"order":[0,1,2,2,2]}~0~job 0 insert ok 1^job 1 insert ok 1^job 2 get E6 -^open none^commands 3^
+{"jobs":[{"docs":[{"_id":5,"chunkSize":0,"length":{"$int64":"4"},"uploadDate":{"$date":0}}],"job":"insert","ns":"db.fs.files"},{"docs":[{"_id":0,"data":{"$bytes":"61626364"},"files_id":5,"n":0}],"job":"insert","ns":"db.fs.chunks"},{"db":"db","id":5,"job":"get","read":16}],"order":[0,1,2,2,2]}~0~job 0 insert ok 1^job 1 insert ok 1^job 2 get E6 -^open none^commands 3^
+{"jobs":[{"docs":[{"_id":5,"chunkSize":1,"length":{"$int64":"9223372036854775807"},"uploadDate":{"$date":0}}],"job":"insert","ns":"db.fs.files"},{"docs":[{"_id":0,"data":{"$bytes":"61"},"files_id":5,"n":0}],"job":"insert","ns":"db.fs.chunks"},{"db":"db","id":5,"job":"get","read":4}],"order":[0,1,2,2,2]}~0~job 0 insert ok 1^job 1 insert ok 1^job 2 get E6 -^open none^commands 3^
+{"jobs":[{"docs":[{"_id":5,"chunkSize":1,"length":{"$int64":"9223372036854775807"},"uploadDate":{"$date":0}}],"job":"insert","ns":"db.fs.files"},{"docs":[{"_id":0,"data":{"$bytes":"61"},"files_id":5,"n":0}],"job":"insert","ns":"db.fs.chunks"},{"db":"db","id":5,"job":"get","read":16}],"order":[0,1,2,2,2]}~0~job 0 insert ok 1^job 1 insert ok 1^job 2 get E6 -^open none^commands 3^
+{"jobs":[{"docs":[{"_id":5,"chunkSize":4,"length":{"$int64":"6"},"uploadDate":{"$date":0}}],"job":"insert","ns":"db.fs.files"},{"docs":[{"_id":0,"data":{"$bytes":"61626364"},"files_id":5,"n":0},{"_id":1,"data":{"$bytes":"6566"},"files_id":5,"n":1}],"job":"insert","ns":"db.fs.chunks"},{"chunk":4,"db":"db","id":7,"job":"put","name":"f","pieces":["75767778797a"]},{"db":"db","id":5,"job":"get","read":16},{"db":"db","id":7,"job":"get","read":16}],"order":[0,1,2,2,2,3,3,3,4,4,4]}~0~job 0 insert ok 1^job 1 insert ok 2^job 2 put ok 6^job 3 get ok 616263646566^job 4 get ok 75767778797a^open none^commands 10^
+{"jobs":[{"db":"db","id":5,"job":"get","read":4}],"order":[0]}~0~job 0 get E11a -^open none^commands 1^"#;

@@ -1,14 +1,12 @@
-use super::are_found;
-use layers::{Subject, owned, parted, repeated, written};
+use super::{owned, written};
 use mg_jobs::{ScriptError, json_text, parse_script, value_from_json};
-use mg_link::Error;
 use serde_json::Value;
-use std::alloc::{AllocError, Global};
+use std::process::Abort;
 
 // ---- values
 
 /// Each line is a JSON value, the kind that it becomes, and what that prints as; or a value that is refused.
-const VALUES: &str = r#""a"~String~"a"
+pub(super) const VALUES: &str = r#""a"~String~"a"
 ""~String~""
 true~Boolean~true
 false~Boolean~false
@@ -88,31 +86,23 @@ null~Null~null
 {"a":{"b":[{"$int64":"x"}]}}~refused
 {"a":{"$date":1},"b":18446744073709551615}~refused"#;
 
-struct ScriptValues;
-
-impl Subject for ScriptValues {
-    /// What a JSON text stands for: the kind and the printed value, parted by `~`, or `refused`.
-    fn found(alloc: Global, json: &str) -> Result<String, Error> {
-        let Ok(json) = Value::from_slice(alloc, json.as_bytes()) else {
-            return owned(alloc, "not json");
-        };
-        let Some(value) = value_from_json(alloc, &json)? else {
-            return owned(alloc, "refused");
-        };
-        let printed = json_text(alloc, &value)?;
-        written(format!(in alloc; "{:?}~{printed}", value.kind()))
-    }
-}
-
-#[test]
-fn values(rt: HostRuntime) {
-    are_found::<ScriptValues>(&rt, "~", VALUES);
+/// What a JSON text stands for: the kind and the printed value, parted by `~`, or `refused`.
+pub(super) fn value(rt: &(impl Abort + AllocGlobal), json: &str) -> String {
+    let Ok(json) = Value::from_slice(rt.alloc(), json.as_bytes()) else {
+        return owned(rt, "not json");
+    };
+    let Some(value) = value_from_json(rt.alloc(), &json).expect(rt, "memory") else {
+        return owned(rt, "refused");
+    };
+    let printed = json_text(rt.alloc(), &value).expect(rt, "memory");
+    written(rt, format!(in rt.alloc(); "{:?}~{printed}", value.kind()))
 }
 
 // ---- scripts
 
-/// Whole scripts, each with the place of its first fault behind it.
-const SCRIPTS: &str = r#"~not json
+/// Whole scripts, each with the place of its first fault behind it. The last four have many arrays, one in the other, or many
+/// jobs: none is a job, which is found where the text is JSON and its list not too long, and three brackets stand around the arrays.
+pub(super) const SCRIPTS: &str = r#"~not json
 [~not json
 nul~not json
 {"jobs":[],"order":[]~not json
@@ -164,182 +154,123 @@ null~top
 {"jobs":[],"order":[4294967295,0]}~taken
 {"jobs":0,"jobs":[],"order":0,"order":[]}~taken
 {"jobs":[],"order":[],"fates":[],"ids":"09afbc","moment":-9223372036854775808,"wire":0}~taken
-{"jobs":[],"order":[],"fates":[{},{"pend":0},{"kind":"keep"}],"wire":2147483647}~taken"#;
+{"jobs":[],"order":[],"fates":[{},{"pend":0},{"kind":"keep"}],"wire":2147483647}~taken
+{"jobs":[{"a":<124*[><124*]>}],"order":[]}~job 0
+{"jobs":[{"a":<125*[><125*]>}],"order":[]}~not json
+{"jobs":[<65535*0,>0],"order":[]}~job 0
+{"jobs":[<65536*0,>0],"order":[]}~top"#;
 
-/// The first job of a script, each with the place of the script's fault behind it.
-const JOBS: &str = r#"null~job 0
-[]~job 0
-{"docs":[{}],"ns":"a.b"}~job 0
-{"docs":[{}],"job":1,"ns":"a.b"}~job 0
-{"docs":[{}],"job":"Insert","ns":"a.b"}~job 0
-{"docs":[{}],"job":"insert"}~job 0
-{"job":"insert","ns":"a.b"}~job 0
-{"docs":[],"job":"insert","ns":"a.b"}~job 0
-{"docs":{},"job":"insert","ns":"a.b"}~job 0
-{"docs":[{},1],"job":"insert","ns":"a.b"}~job 0
-{"docs":[[]],"job":"insert","ns":"a.b"}~job 0
-{"docs":[{"$date":1}],"job":"insert","ns":"a.b"}~job 0
-{"docs":[{"$date":"x"}],"job":"insert","ns":"a.b"}~job 0
-{"docs":[{"x":1.0}],"job":"insert","ns":"a.b"}~job 0
-{"docs":[{}],"job":"insert","ns":"ab"}~job 0
-{"docs":[{}],"job":"insert","ns":".b"}~job 0
-{"docs":[{}],"job":"insert","ns":"a."}~job 0
-{"docs":[{}],"job":"insert","ns":null}~job 0
-{"batch":1,"docs":[{}],"job":"insert","ns":"a.b"}~job 0
-{"docs":[{},{"$x":1}],"job":"insert","ns":"a.b.c"}~taken
-{"calls":1,"job":"follow"}~job 0
-{"calls":1,"job":"follow","on":1}~job 0
-{"calls":1,"job":"follow","on":".b"}~job 0
-{"calls":1,"job":"follow","on":"a."}~job 0
-{"calls":1,"job":"follow","on":"."}~job 0
-{"job":"follow","on":"a.b"}~job 0
-{"calls":-1,"job":"follow","on":"a.b"}~job 0
-{"calls":1.0,"job":"follow","on":"a.b"}~job 0
-{"calls":1048577,"job":"follow","on":"a.b"}~job 0
-{"calls":4294967296,"job":"follow","on":"a.b"}~job 0
-{"batch":4294967296,"calls":1,"job":"follow","on":"a.b"}~job 0
-{"batch":null,"calls":1,"job":"follow","on":"a.b"}~job 0
-{"calls":1,"job":"follow","match":null,"on":"a.b"}~job 0
-{"calls":1,"job":"follow","match":[],"on":"a.b"}~job 0
-{"calls":1,"job":"follow","match":{"$int64":"1"},"on":"a.b"}~job 0
-{"calls":1,"job":"follow","match":{"a":{"$bytes":"0"}},"on":"a.b"}~job 0
-{"calls":1,"job":"follow","on":"a.b","start":null}~job 0
-{"calls":1,"job":"follow","on":"a.b","start":{}}~job 0
-{"calls":1,"job":"follow","on":"a.b","start":{"after":1}}~job 0
-{"calls":1,"job":"follow","on":"a.b","start":{"resumeAfter":1,"startAfter":1}}~job 0
-{"calls":1,"job":"follow","on":"a.b","start":{"resumeAfter":1.0}}~job 0
-{"calls":1,"job":"follow","on":"a.b","start":{"startAt":1}}~job 0
-{"calls":1,"job":"follow","on":"a.b","start":{"startAt":{"$timestamp":{"i":1}}}}~job 0
-{"calls":1,"job":"follow","on":"a.b","split":true}~job 0
-{"calls":1048576,"job":"follow","on":"a.b"}~taken
-{"batch":4294967295,"calls":0,"job":"follow","match":{"a":{"$in":[1]}},"on":"a.b.c","start":{"resumeAfter":null}}~taken
-{"calls":1,"job":"follow","on":"a"}~taken
-{"calls":1,"job":"follow","on":""}~taken
-{"calls":1,"job":"follow","on":"a.b","start":{"startAfter":{"_data":"0"}}}~taken
-{"calls":1,"job":"follow","on":"a.b","start":{"startAt":{"$timestamp":{"i":1,"t":1}}}}~taken
-{"chunk":4,"id":0,"job":"put","name":"f","pieces":[]}~job 0
-{"chunk":4,"db":"","id":0,"job":"put","name":"f","pieces":[]}~job 0
-{"chunk":4,"db":"a.b","id":0,"job":"put","name":"f","pieces":[]}~job 0
-{"chunk":4,"db":".","id":0,"job":"put","name":"f","pieces":[]}~job 0
-{"bucket":null,"chunk":4,"db":"a","id":0,"job":"put","name":"f","pieces":[]}~job 0
-{"chunk":4,"db":"a","job":"put","name":"f","pieces":[]}~job 0
-{"chunk":4,"db":"a","id":1.0,"job":"put","name":"f","pieces":[]}~job 0
-{"chunk":4,"db":"a","id":0,"job":"put","pieces":[]}~job 0
-{"db":"a","id":0,"job":"put","name":"f","pieces":[]}~job 0
-{"chunk":4294967296,"db":"a","id":0,"job":"put","name":"f","pieces":[]}~job 0
-{"chunk":4,"db":"a","id":0,"job":"put","name":"f"}~job 0
-{"chunk":4,"db":"a","id":0,"job":"put","name":"f","pieces":"00"}~job 0
-{"chunk":4,"db":"a","id":0,"job":"put","name":"f","pieces":["00","0"]}~job 0
-{"chunk":4,"db":"a","id":0,"job":"put","name":"f","pieces":["0x"]}~job 0
-{"chunk":4,"db":"a","id":0,"job":"put","name":"f","pieces":[0]}~job 0
-{"chunk":4,"db":"a","id":0,"job":"put","name":"f","pieces":[],"read":1}~job 0
-{"bucket":"","chunk":0,"db":"a","id":null,"job":"put","name":"","pieces":["","aAfF"]}~taken
-{"db":"a","id":0,"job":"get"}~job 0
-{"db":"a","id":0,"job":"get","read":-1}~job 0
-{"db":"","id":0,"job":"get","read":1}~job 0
-{"db":"a.","id":0,"job":"get","read":1}~job 0
-{"db":".a","id":0,"job":"get","read":1}~job 0
-{"db":"a","job":"get","read":1}~job 0
-{"db":"a","id":{"$oid":"0"},"job":"get","read":1}~job 0
-{"chunk":1,"db":"a","id":0,"job":"get","read":1}~job 0
-{"bucket":"b.c","db":"a","id":{"$date":1},"job":"get","read":4294967295}~taken"#;
+/// The same of scripts with one job.
+pub(super) const JOBS: &str = r#"{"jobs":[null],"order":[]}~job 0
+{"jobs":[[]],"order":[]}~job 0
+{"jobs":[{"docs":[{}],"ns":"a.b"}],"order":[]}~job 0
+{"jobs":[{"docs":[{}],"job":1,"ns":"a.b"}],"order":[]}~job 0
+{"jobs":[{"docs":[{}],"job":"Insert","ns":"a.b"}],"order":[]}~job 0
+{"jobs":[{"docs":[{}],"job":"insert"}],"order":[]}~job 0
+{"jobs":[{"job":"insert","ns":"a.b"}],"order":[]}~job 0
+{"jobs":[{"docs":[],"job":"insert","ns":"a.b"}],"order":[]}~job 0
+{"jobs":[{"docs":{},"job":"insert","ns":"a.b"}],"order":[]}~job 0
+{"jobs":[{"docs":[{},1],"job":"insert","ns":"a.b"}],"order":[]}~job 0
+{"jobs":[{"docs":[[]],"job":"insert","ns":"a.b"}],"order":[]}~job 0
+{"jobs":[{"docs":[{"$date":1}],"job":"insert","ns":"a.b"}],"order":[]}~job 0
+{"jobs":[{"docs":[{"$date":"x"}],"job":"insert","ns":"a.b"}],"order":[]}~job 0
+{"jobs":[{"docs":[{"x":1.0}],"job":"insert","ns":"a.b"}],"order":[]}~job 0
+{"jobs":[{"docs":[{}],"job":"insert","ns":"ab"}],"order":[]}~job 0
+{"jobs":[{"docs":[{}],"job":"insert","ns":".b"}],"order":[]}~job 0
+{"jobs":[{"docs":[{}],"job":"insert","ns":"a."}],"order":[]}~job 0
+{"jobs":[{"docs":[{}],"job":"insert","ns":null}],"order":[]}~job 0
+{"jobs":[{"batch":1,"docs":[{}],"job":"insert","ns":"a.b"}],"order":[]}~job 0
+{"jobs":[{"docs":[{},{"$x":1}],"job":"insert","ns":"a.b.c"}],"order":[]}~taken
+{"jobs":[{"calls":1,"job":"follow"}],"order":[]}~job 0
+{"jobs":[{"calls":1,"job":"follow","on":1}],"order":[]}~job 0
+{"jobs":[{"calls":1,"job":"follow","on":".b"}],"order":[]}~job 0
+{"jobs":[{"calls":1,"job":"follow","on":"a."}],"order":[]}~job 0
+{"jobs":[{"calls":1,"job":"follow","on":"."}],"order":[]}~job 0
+{"jobs":[{"job":"follow","on":"a.b"}],"order":[]}~job 0
+{"jobs":[{"calls":-1,"job":"follow","on":"a.b"}],"order":[]}~job 0
+{"jobs":[{"calls":1.0,"job":"follow","on":"a.b"}],"order":[]}~job 0
+{"jobs":[{"calls":1048577,"job":"follow","on":"a.b"}],"order":[]}~job 0
+{"jobs":[{"calls":4294967296,"job":"follow","on":"a.b"}],"order":[]}~job 0
+{"jobs":[{"batch":4294967296,"calls":1,"job":"follow","on":"a.b"}],"order":[]}~job 0
+{"jobs":[{"batch":null,"calls":1,"job":"follow","on":"a.b"}],"order":[]}~job 0
+{"jobs":[{"calls":1,"job":"follow","match":null,"on":"a.b"}],"order":[]}~job 0
+{"jobs":[{"calls":1,"job":"follow","match":[],"on":"a.b"}],"order":[]}~job 0
+{"jobs":[{"calls":1,"job":"follow","match":{"$int64":"1"},"on":"a.b"}],"order":[]}~job 0
+{"jobs":[{"calls":1,"job":"follow","match":{"a":{"$bytes":"0"}},"on":"a.b"}],"order":[]}~job 0
+{"jobs":[{"calls":1,"job":"follow","on":"a.b","start":null}],"order":[]}~job 0
+{"jobs":[{"calls":1,"job":"follow","on":"a.b","start":{}}],"order":[]}~job 0
+{"jobs":[{"calls":1,"job":"follow","on":"a.b","start":{"after":1}}],"order":[]}~job 0
+{"jobs":[{"calls":1,"job":"follow","on":"a.b","start":{"resumeAfter":1,"startAfter":1}}],"order":[]}~job 0
+{"jobs":[{"calls":1,"job":"follow","on":"a.b","start":{"resumeAfter":1.0}}],"order":[]}~job 0
+{"jobs":[{"calls":1,"job":"follow","on":"a.b","start":{"startAt":1}}],"order":[]}~job 0
+{"jobs":[{"calls":1,"job":"follow","on":"a.b","start":{"startAt":{"$timestamp":{"i":1}}}}],"order":[]}~job 0
+{"jobs":[{"calls":1,"job":"follow","on":"a.b","split":true}],"order":[]}~job 0
+{"jobs":[{"calls":1048576,"job":"follow","on":"a.b"}],"order":[]}~taken
+{"jobs":[{"batch":4294967295,"calls":0,"job":"follow","match":{"a":{"$in":[1]}},"on":"a.b.c","start":{"resumeAfter":null}}],"order":[]}~taken
+{"jobs":[{"calls":1,"job":"follow","on":"a"}],"order":[]}~taken
+{"jobs":[{"calls":1,"job":"follow","on":""}],"order":[]}~taken
+{"jobs":[{"calls":1,"job":"follow","on":"a.b","start":{"startAfter":{"_data":"0"}}}],"order":[]}~taken
+{"jobs":[{"calls":1,"job":"follow","on":"a.b","start":{"startAt":{"$timestamp":{"i":1,"t":1}}}}],"order":[]}~taken
+{"jobs":[{"chunk":4,"id":0,"job":"put","name":"f","pieces":[]}],"order":[]}~job 0
+{"jobs":[{"chunk":4,"db":"","id":0,"job":"put","name":"f","pieces":[]}],"order":[]}~job 0
+{"jobs":[{"chunk":4,"db":"a.b","id":0,"job":"put","name":"f","pieces":[]}],"order":[]}~job 0
+{"jobs":[{"chunk":4,"db":".","id":0,"job":"put","name":"f","pieces":[]}],"order":[]}~job 0
+{"jobs":[{"bucket":null,"chunk":4,"db":"a","id":0,"job":"put","name":"f","pieces":[]}],"order":[]}~job 0
+{"jobs":[{"chunk":4,"db":"a","job":"put","name":"f","pieces":[]}],"order":[]}~job 0
+{"jobs":[{"chunk":4,"db":"a","id":1.0,"job":"put","name":"f","pieces":[]}],"order":[]}~job 0
+{"jobs":[{"chunk":4,"db":"a","id":0,"job":"put","pieces":[]}],"order":[]}~job 0
+{"jobs":[{"db":"a","id":0,"job":"put","name":"f","pieces":[]}],"order":[]}~job 0
+{"jobs":[{"chunk":4294967296,"db":"a","id":0,"job":"put","name":"f","pieces":[]}],"order":[]}~job 0
+{"jobs":[{"chunk":4,"db":"a","id":0,"job":"put","name":"f"}],"order":[]}~job 0
+{"jobs":[{"chunk":4,"db":"a","id":0,"job":"put","name":"f","pieces":"00"}],"order":[]}~job 0
+{"jobs":[{"chunk":4,"db":"a","id":0,"job":"put","name":"f","pieces":["00","0"]}],"order":[]}~job 0
+{"jobs":[{"chunk":4,"db":"a","id":0,"job":"put","name":"f","pieces":["0x"]}],"order":[]}~job 0
+{"jobs":[{"chunk":4,"db":"a","id":0,"job":"put","name":"f","pieces":[0]}],"order":[]}~job 0
+{"jobs":[{"chunk":4,"db":"a","id":0,"job":"put","name":"f","pieces":[],"read":1}],"order":[]}~job 0
+{"jobs":[{"bucket":"","chunk":0,"db":"a","id":null,"job":"put","name":"","pieces":["","aAfF"]}],"order":[]}~taken
+{"jobs":[{"db":"a","id":0,"job":"get"}],"order":[]}~job 0
+{"jobs":[{"db":"a","id":0,"job":"get","read":-1}],"order":[]}~job 0
+{"jobs":[{"db":"","id":0,"job":"get","read":1}],"order":[]}~job 0
+{"jobs":[{"db":"a.","id":0,"job":"get","read":1}],"order":[]}~job 0
+{"jobs":[{"db":".a","id":0,"job":"get","read":1}],"order":[]}~job 0
+{"jobs":[{"db":"a","job":"get","read":1}],"order":[]}~job 0
+{"jobs":[{"db":"a","id":{"$oid":"0"},"job":"get","read":1}],"order":[]}~job 0
+{"jobs":[{"chunk":1,"db":"a","id":0,"job":"get","read":1}],"order":[]}~job 0
+{"jobs":[{"bucket":"b.c","db":"a","id":{"$date":1},"job":"get","read":4294967295}],"order":[]}~taken"#;
 
-/// The second fate of a script, each with the place of the script's fault behind it.
-const FATES: &str = r#"0~fate 1
-null~fate 1
-{"x":0}~fate 1
-{"pend":-1}~fate 1
-{"pend":4294967296}~fate 1
-{"pend":null}~fate 1
-{"kind":"kept"}~fate 1
-{"kind":null}~fate 1
-{"kind":1}~fate 1
-{"code":0}~fate 1
-{"labels":[]}~fate 1
-{"code":0,"kind":"keep"}~fate 1
-{"code":1,"kind":"lose"}~fate 1
-{"kind":"drop","labels":[]}~fate 1
-{"code":2147483648,"kind":"refuse"}~fate 1
-{"code":1.0,"kind":"refuse"}~fate 1
-{"code":null,"kind":"refuse"}~fate 1
-{"kind":"refuse","labels":null}~fate 1
-{"kind":"refuse","labels":"a"}~fate 1
-{"kind":"refuse","labels":["a",0]}~fate 1
-{"kind":"keep","pend":0}~taken
-{"pend":4294967295}~taken
-{"kind":"lose"}~taken
-{"kind":"drop","pend":0}~taken
-{"kind":"refuse"}~taken
-{"code":-2147483648,"kind":"refuse","labels":["a","a",""],"pend":1}~taken"#;
+/// The same of scripts with two fates.
+pub(super) const FATES: &str = r#"{"fates":[{},0],"jobs":[],"order":[]}~fate 1
+{"fates":[{},null],"jobs":[],"order":[]}~fate 1
+{"fates":[{},{"x":0}],"jobs":[],"order":[]}~fate 1
+{"fates":[{},{"pend":-1}],"jobs":[],"order":[]}~fate 1
+{"fates":[{},{"pend":4294967296}],"jobs":[],"order":[]}~fate 1
+{"fates":[{},{"pend":null}],"jobs":[],"order":[]}~fate 1
+{"fates":[{},{"kind":"kept"}],"jobs":[],"order":[]}~fate 1
+{"fates":[{},{"kind":null}],"jobs":[],"order":[]}~fate 1
+{"fates":[{},{"kind":1}],"jobs":[],"order":[]}~fate 1
+{"fates":[{},{"code":0}],"jobs":[],"order":[]}~fate 1
+{"fates":[{},{"labels":[]}],"jobs":[],"order":[]}~fate 1
+{"fates":[{},{"code":0,"kind":"keep"}],"jobs":[],"order":[]}~fate 1
+{"fates":[{},{"code":1,"kind":"lose"}],"jobs":[],"order":[]}~fate 1
+{"fates":[{},{"kind":"drop","labels":[]}],"jobs":[],"order":[]}~fate 1
+{"fates":[{},{"code":2147483648,"kind":"refuse"}],"jobs":[],"order":[]}~fate 1
+{"fates":[{},{"code":1.0,"kind":"refuse"}],"jobs":[],"order":[]}~fate 1
+{"fates":[{},{"code":null,"kind":"refuse"}],"jobs":[],"order":[]}~fate 1
+{"fates":[{},{"kind":"refuse","labels":null}],"jobs":[],"order":[]}~fate 1
+{"fates":[{},{"kind":"refuse","labels":"a"}],"jobs":[],"order":[]}~fate 1
+{"fates":[{},{"kind":"refuse","labels":["a",0]}],"jobs":[],"order":[]}~fate 1
+{"fates":[{},{"kind":"keep","pend":0}],"jobs":[],"order":[]}~taken
+{"fates":[{},{"pend":4294967295}],"jobs":[],"order":[]}~taken
+{"fates":[{},{"kind":"lose"}],"jobs":[],"order":[]}~taken
+{"fates":[{},{"kind":"drop","pend":0}],"jobs":[],"order":[]}~taken
+{"fates":[{},{"kind":"refuse"}],"jobs":[],"order":[]}~taken
+{"fates":[{},{"code":-2147483648,"kind":"refuse","labels":["a","a",""],"pend":1}],"jobs":[],"order":[]}~taken"#;
 
 /// The place of the first fault of a script, or `taken` where it has none.
-fn place_of(alloc: Global, script: &str) -> Result<String, Error> {
-    match parse_script(alloc, script.as_bytes()) {
-        Ok(_) => owned(alloc, "taken"),
-        Err(ScriptError::Fault(place)) => written(format!(in alloc; "{place}")),
-        Err(ScriptError::OutOfMemory) => Err(Error::from(AllocError)),
+pub(super) fn place(rt: &(impl Abort + AllocGlobal), script: &str) -> String {
+    match parse_script(rt.alloc(), script.as_bytes()) {
+        Ok(_) => owned(rt, "taken"),
+        Err(ScriptError::Fault(place)) => written(rt, format!(in rt.alloc(); "{place}")),
+        Err(ScriptError::OutOfMemory) => owned(rt, "out of memory"),
     }
-}
-
-struct Scripts;
-
-impl Subject for Scripts {
-    fn found(alloc: Global, script: &str) -> Result<String, Error> {
-        place_of(alloc, script)
-    }
-}
-
-struct Jobs;
-
-impl Subject for Jobs {
-    fn found(alloc: Global, job: &str) -> Result<String, Error> {
-        let before = "{\"jobs\":[";
-        let behind = "],\"order\":[]}";
-        place_of(alloc, format!(in alloc; "{before}{job}{behind}")?.as_str())
-    }
-}
-
-struct Fates;
-
-impl Subject for Fates {
-    fn found(alloc: Global, fate: &str) -> Result<String, Error> {
-        let before = "{\"fates\":[{},";
-        let behind = "],\"jobs\":[],\"order\":[]}";
-        place_of(alloc, format!(in alloc; "{before}{fate}{behind}")?.as_str())
-    }
-}
-
-#[test]
-fn places(rt: HostRuntime) {
-    are_found::<Scripts>(&rt, "~", SCRIPTS);
-    are_found::<Jobs>(&rt, "~", JOBS);
-    are_found::<Fates>(&rt, "~", FATES);
-}
-
-/// So many arrays, one in the other, or so many entries before the last, in a script, and the place of its first fault. None is
-/// a job, which is found where the text is JSON and its list not too long. Three brackets stand around the arrays.
-const LARGE: &str = "levels 124 -> job 0
-levels 125 -> not json
-entries 65535 -> job 0
-entries 65536 -> top";
-
-struct Large;
-
-impl Subject for Large {
-    fn found(alloc: Global, line: &str) -> Result<String, Error> {
-        let (what, times) = parted(line);
-        let times = times.parse::<u32>().unwrap_or(0);
-        let script = if what == "levels" {
-            let end = repeated(alloc, "", "]", times, "}],\"order\":[]}")?;
-            repeated(alloc, "{\"jobs\":[{\"a\":", "[", times, end.as_str())?
-        } else {
-            repeated(alloc, "{\"jobs\":[", "0,", times, "0],\"order\":[]}")?
-        };
-        place_of(alloc, script.as_str())
-    }
-}
-
-#[test]
-fn large_scripts(rt: HostRuntime) {
-    are_found::<Large>(&rt, " -> ", LARGE);
 }

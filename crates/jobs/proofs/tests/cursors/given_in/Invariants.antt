@@ -4,4 +4,4 @@ use Rattle.mg_cursor.specs.Client.{client_ticket}
 use Rattle.jobs.proofs.tests.cursors.given_in.Given as goal
 
 abbrev pub invariant-documents : goal.invariant-documents
-invariant-documents l = IsOut (out_at l.link.calls) (client_ticket l.stream.cursor.now.cursor)
+invariant-documents g l = IsOut (out_at l.link.calls) (client_ticket l.stream.cursor.now.cursor)

@@ -3,5 +3,5 @@ use Rattle.mg_link.specs.Places.{out_at}
 use Rattle.mg_cursor.specs.Client.{client_ticket}
 use Rattle.jobs.proofs.tests.cursors.steps_words.Given as goal
 
-abbrev pub invariant-steps : goal.invariant-steps
-invariant-steps l = IsOut (out_at l.link.calls) (client_ticket l.cursor.cursor)
+abbrev pub invariant-polls : goal.invariant-polls
+invariant-polls g l = IsOut (out_at l.link.calls) (client_ticket l.cursor.cursor)

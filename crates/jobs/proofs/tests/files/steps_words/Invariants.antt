@@ -5,7 +5,7 @@ use Rattle.mg_gridfs.specs.UploadView.{IsUpload, upload_of}
 use Rattle.jobs.proofs.tests.files.steps_words.Given as goal
 
 abbrev pub invariant-steps : goal.invariant-steps
-invariant-steps l = record {
+invariant-steps g l = record {
   out : IsOut (out_at l.link.calls) (upload_ticket (upload_of l.upload));
   sound : IsUpload l.upload;
 }

@@ -4,8 +4,8 @@ use Rattle.mg_change.specs.ClientStreams.{stream_ticket}
 use Rattle.mg_change.specs.StreamView.{IsPlainStream, stream_of}
 use Rattle.jobs.proofs.tests.streams.steps_words.Given as goal
 
-abbrev pub invariant-steps : goal.invariant-steps
-invariant-steps l = record {
+abbrev pub invariant-polls : goal.invariant-polls
+invariant-polls g l = record {
   out : IsOut (out_at l.link.calls) (stream_ticket (stream_of l.stream));
   sound : IsPlainStream l.stream;
 }
