@@ -41,12 +41,13 @@ fn small(digits: &str) -> u32 {
     digits.parse::<u32>().unwrap_or(0)
 }
 
-// The text in which `ab` stands three times for each `<3*ab>`.
+// The text in which `ab` stands three times for each `<3*ab>`. No `<` stands for itself.
 fn expanded(rt: &(impl Abort + AllocGlobal), text: &str) -> String {
-    let mut whole = String::new(rt.alloc());
-    for part in text.split('<') {
-        let (counted, rest) = part.split_once('>').unwrap_or(("", part));
-        let (times, unit) = counted.split_once('*').unwrap_or(("0", ""));
+    let mut parts = text.split('<');
+    let mut whole = owned(rt, parts.next().unwrap_or(""));
+    for part in parts {
+        let (counted, rest) = part.split_once('>').expect(rt, "a > behind each <");
+        let (times, unit) = counted.split_once('*').expect(rt, "a * behind each <");
         let text = repeated(rt.alloc(), "", unit, small(times), rest);
         tell(rt, &mut whole, written(rt, text));
     }

@@ -2,12 +2,10 @@
 #![tactic(auto)]
 
 mod samples;
-mod tables;
 #[cfg(test)]
 mod tests;
 
 pub use samples::{
     bytes_at, collection, document_word, find, insert, json_bytes, json_value, named, namespace,
-    one_field, owned, parted, repeated, text, with, with_text, written,
+    one_field, parted, repeated, with,
 };
-pub use tables::{Subject, differences};

@@ -31,19 +31,9 @@ pub fn repeated(
     Ok(text)
 }
 
-/// A text that its caller owns.
-pub fn owned(alloc: Global, text: &str) -> Result<String, Error> {
-    Ok(String::from_str(alloc, text)?)
-}
-
-/// A text that was formatted. A caller that ends with it lets go of what it holds once.
-pub fn written(text: Result<String, AllocError>) -> Result<String, Error> {
+// A text that was formatted. A caller that ends with it lets go of what it holds once.
+fn written(text: Result<String, AllocError>) -> Result<String, Error> {
     Ok(text?)
-}
-
-/// A text as a value.
-pub fn text(alloc: Global, text: &str) -> Result<Bson, Error> {
-    Ok(Bson::String(String::from_str(alloc, text)?))
 }
 
 /// A collection of a database.
@@ -98,16 +88,6 @@ pub fn with(document: Document, name: &str, value: Bson) -> Result<Document, Err
     let mut document = document;
     document.append(name, value)?;
     Ok(document)
-}
-
-/// The document with a text more.
-pub fn with_text(
-    alloc: Global,
-    document: Document,
-    name: &str,
-    value: &str,
-) -> Result<Document, Error> {
-    with(document, name, text(alloc, value)?)
 }
 
 /// The value that a JSON text stands for. The fields of a document are in the order of their names.

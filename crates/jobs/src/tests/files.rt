@@ -185,7 +185,7 @@ r 1 1+ 1|wcwfc~/wrote 5/pending/the upload is closed/open/done/find "fs.files"/i
 l l|wf~/the link failed/the upload is closed/find "fs.files"/find "fs.files"
 r l 1|wf~/the link failed/the upload is closed/find "fs.files"/insert "fs.chunks"/delete "fs.chunks"
 r d 1|wf~/insert failed, with 1 failures/the upload is closed/find "fs.files"/insert "fs.chunks"/delete "fs.chunks"
-r 1 1+|wawfa~/wrote 5/pending/the upload is closed/the upload is closed/done/find "fs.files"/insert "fs.chunks"/delete "fs.chunks"
+r 1 1+|wawfa~/wrote 5/pending/the upload is closed/open/done/find "fs.files"/insert "fs.chunks"/delete "fs.chunks"
 r 1+ l|wa~/pending/the upload was aborted, and its chunks could not be removed (the link failed)/find "fs.files"/insert "fs.chunks"/delete "fs.chunks"
 r 1+ 1|wcwfa~/pending/a write is going on/the upload is closed/the upload is closed/the upload is closed/find "fs.files"/insert "fs.chunks"/delete "fs.chunks"
 r 1+ l|wcwfa~/pending/the upload failed (a write is going on), and its chunks could not be removed (the link failed)/the upload is closed/the upload is closed/the upload is closed/find "fs.files"/insert "fs.chunks"/delete "fs.chunks"

@@ -540,11 +540,12 @@ fn bad_pattern(rt: &impl Abort, alloc: Global) -> String {
 pub(super) fn limit(rt: &impl Abort, alloc: Global, line: &str) -> String {
     let (about, number) = parted(line);
     match about {
-        "levels" => levels_of(rt, alloc, number.parse::<u8>().unwrap_or(0)),
-        "size" => size_of(rt, alloc, number.parse::<u32>().unwrap_or(0)),
+        "levels" => levels_of(rt, alloc, number.parse::<u8>().expect(rt, "a kind")),
+        "size" => size_of(rt, alloc, number.parse::<u32>().expect(rt, "a size")),
         "name" => faults_of(rt, alloc, "a\0b", Bson::Null),
         "pattern" => bad_pattern(rt, alloc),
-        _ => written(rt, format!(in alloc; "{}", BsonError::BadName)),
+        "printed" => written(rt, format!(in alloc; "{}", BsonError::BadName)),
+        _ => owned(rt, alloc, "no such limit"),
     }
 }
 

@@ -210,9 +210,9 @@ fn differences(
     differences
 }
 
-// The steps of this name.
-fn steps_of(name: &str) -> &'static str {
-    match name {
+// The steps of this name, where there are some.
+fn steps_of(name: &str) -> Option<&'static str> {
+    let steps = match name {
         "commands" => STEPS,
         "queries" => QUERIES,
         "watches" => WATCHES,
@@ -223,8 +223,10 @@ fn steps_of(name: &str) -> &'static str {
         "lists" => LISTS,
         "drops" => DROPS,
         "sorts" => SORTS,
-        _ => FINDS,
-    }
+        "finds" => FINDS,
+        _ => return None,
+    };
+    Some(steps)
 }
 
 /// The steps that are answered otherwise, and the cursors that are open then.
@@ -232,7 +234,8 @@ pub(super) fn steps(rt: &impl Abort, alloc: Global, name: &str) -> String {
     let mut store = Store::new(alloc);
     let ns = named(alloc, "app", "c").expect(rt, "memory");
     let stored = if name == "stored" { Some(&ns) } else { None };
-    let mut text = differences(rt, alloc, &mut store, steps_of(name), stored);
+    let steps = steps_of(name).expect(rt, "steps of this name");
+    let mut text = differences(rt, alloc, &mut store, steps, stored);
     let open = store.open_cursors().expect(rt, "memory");
     write!(text, "{open:?}").expect(rt, "memory");
     text
