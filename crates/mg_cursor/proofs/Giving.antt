@@ -3,6 +3,7 @@ use Rattle.std.proofs.Common.{◌≡◌, ◌⊎◌, ◌↔◌, ℕ, zero, suc, B
 use Rattle.std.specs.Prelude.{if◌then◌else◌}
 use Rattle.std.proofs.lemmas.Bool.{iff_false}
 use Rattle.mg_bson.specs.Walks.{Walk, advanced, advanced_to}
+use Rattle.mg_link.specs.Causes.{one_if}
 use Rattle.mg_link.specs.Errors.{plain}
 use Rattle.mg_link.specs.Exec.{Sending}
 use Rattle.mg_link.specs.Session.{Session, after_command}
@@ -13,7 +14,7 @@ use Rattle.mg_records.specs.Readings.{FailsToRead}
 use Rattle.mg_steps.specs.Cursors.{HasNext as HasNextBy}
 use Rattle.mg_cursor.specs.Client.{ClientCursor, HasNext, HoldsItems, IsOver, MayAsk, asks, holds, rests}
 use Rattle.mg_cursor.specs.Documents.{DocumentCursor, HasMore, ReadsAs, ReadsBy}
-use Rattle.mg_cursor.specs.Seeking.{CopiesIf, one_if, session_moved, times}
+use Rattle.mg_cursor.specs.Seeking.{CopiesIf, session_moved, times}
 use Rattle.mg_cursor.specs.View.{AdvancesBy, behind_of, current_in, behind_in}
 use Rattle.mg_cursor.specs.declared.buffer.BatchBuffer.{BatchBuffer}
 use Rattle.mg_cursor.specs.declared.polls.ItemPoll.{ItemPoll}

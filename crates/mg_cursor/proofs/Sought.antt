@@ -1,5 +1,6 @@
 -- A call that seeks a document, one advance behind another.
 use Rattle.std.proofs.Common.{◌≡◌, ◌<◌, ◌≤◌, ◌+◌, ◌-◌, ℕ, zero, suc, ℤ, Bool, true, false, List, [], ◌∷◌, Option, Some, None, is_some, option_map, refl, sym, ap, ◌∙◌, subst, inl, inr, arith}
+use Rattle.mg_link.specs.Causes.{one_if}
 use Rattle.mg_link.specs.Errors.{plain}
 use Rattle.mg_link.specs.Link.{Awaited, LogTold}
 use Rattle.mg_link.specs.Moment.{LinkKeeps, Moment, finished}
@@ -7,7 +8,7 @@ use Rattle.mg_link.specs.Session.{Session, after_command}
 use Rattle.mg_link.specs.declared.error.ErrorKind.TheVariants as kind
 use Rattle.mg_cursor.specs.Client.{ClientCursor, IsSound, PlainIf, client_ticket}
 use Rattle.mg_cursor.specs.Documents.{AdvancesOnce, DocumentCursor, Fills, TakesNext, advance_by, broken, filled, filled_with, gives, polls, try_ending}
-use Rattle.mg_cursor.specs.Seeking.{CopiesIf, CopiesCurrent, EndsSeeking, IsEnough, ItemLeaves, KeepsCount, KeepsCountBy, LeavesBy, MayEnd, SeekLeaves, SeeksDocument, SeeksLast, SeeksOn, TriesAdvance, TryLeaves, advance_ending, counted, ended_as, item_ending, kept_behind, most_empty, one_if, session_after, times}
+use Rattle.mg_cursor.specs.Seeking.{CopiesIf, CopiesCurrent, EndsSeeking, IsEnough, ItemLeaves, KeepsCount, KeepsCountBy, LeavesBy, MayEnd, SeekLeaves, SeeksDocument, SeeksLast, SeeksOn, TriesAdvance, TryLeaves, advance_ending, counted, ended_as, item_ending, kept_behind, most_empty, session_after, times}
 use Rattle.mg_cursor.specs.declared.polls.AdvancePoll.{AdvancePoll}
 use Rattle.mg_cursor.specs.declared.polls.AdvancePoll.TheVariants as advance
 use Rattle.mg_cursor.specs.declared.polls.ItemPoll.{ItemPoll}

@@ -2,6 +2,7 @@
 use Rattle.std.specs.Prelude.{◌≡◌, ◌⊎◌, ◌<◌, ◌≤◌, ◌+◌, ℕ, zero, suc, ℤ, Bool, true, false, List, [], ◌∷◌, length, Option, Some, None, is_some, option_map, Ok}
 use Rattle.mg_bson.specs.Raw.{fields}
 use Rattle.mg_server.specs.Calls.{Keeps, Past, past_of}
+use Rattle.mg_link.specs.Causes.{one_if}
 use Rattle.mg_link.specs.Errors.{plain}
 use Rattle.mg_link.specs.Link.{Awaited, LogTold}
 use Rattle.mg_link.specs.Log.{Call}
@@ -45,10 +46,6 @@ session_after false session = session
 abbrev pub session_moved : Bool → Session → Session
 session_moved true s = after_command s
 session_moved false s = s
-
-abbrev pub one_if : Bool → ℕ
-one_if true = 1
-one_if false = 0
 
 -- so many times over
 abbrev pub times : {A : Type 0} → ℕ → (A → A) → A → A

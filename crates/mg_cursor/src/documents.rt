@@ -1,6 +1,7 @@
 //! The documents of a cursor, one machine for all cursors that give them.
 ghost use Rattle.std.specs.Prelude.{◌≡◌, ◌↔◌, ◌⊎◌, ℕ, IsTrue, Bool, false, true, is_some};
 ghost use Rattle.mg_link.specs.Acts.{IsOut};
+ghost use Rattle.mg_link.specs.Causes.{one_if};
 ghost use Rattle.mg_link.specs.Moment.{LinkKeeps, moment};
 ghost use Rattle.mg_server.specs.Reader.{ReadMoved, Reader};
 ghost use Rattle.mg_ops.specs.Naming.{IsNamed};
@@ -10,7 +11,7 @@ ghost use Rattle.mg_cursor.specs.Client.{IsSound, PlainIf, client_ticket, new_cl
 ghost use Rattle.mg_cursor.specs.Closing.{closed};
 ghost use Rattle.mg_cursor.specs.Documents.{AdvancesOnce, Fills, HasMore, ReadsAs, new_documents, try_ending};
 ghost use Rattle.mg_cursor.specs.Reading.{reader_of, told_advance, told_item, told_try};
-ghost use Rattle.mg_cursor.specs.Seeking.{CopiesIf, CountsOne, EndsSeeking, ItemLeaves, KeepsCount, KeepsCountBy, MayEnd, SeekCaused, SeekLeaves, SeeksDocument, SeeksItem, TriesAdvance, TryLeaves, advance_ending, ended_as, item_ending, kept_behind, one_if, times};
+ghost use Rattle.mg_cursor.specs.Seeking.{CopiesIf, CountsOne, EndsSeeking, ItemLeaves, KeepsCount, KeepsCountBy, MayEnd, SeekCaused, SeekLeaves, SeeksDocument, SeeksItem, TriesAdvance, TryLeaves, advance_ending, ended_as, item_ending, kept_behind, times};
 ghost use Rattle.mg_cursor.specs.View.{document_cursor};
 ghost use Rattle.mg_cursor.specs.declared.polls.ItemPoll.TheVariants as polled;
 

@@ -1,5 +1,6 @@
 //! A cursor of a session that gives its documents.
 ghost use Rattle.std.specs.Prelude.{◌≡◌, ◌↔◌, ℕ, IsTrue, Bool, Some, true, is_some};
+ghost use Rattle.mg_link.specs.Causes.{one_if};
 ghost use Rattle.mg_link.specs.Session.{after_command};
 ghost use Rattle.mg_link.specs.Acts.{IsOut};
 ghost use Rattle.mg_link.specs.Moment.{LinkKeeps, moment};
@@ -9,7 +10,7 @@ ghost use Rattle.mg_cursor.specs.Client.{client_ticket, pinned_to};
 ghost use Rattle.mg_cursor.specs.Closing.{closed};
 ghost use Rattle.mg_cursor.specs.Documents.{HasMore, ReadsAs, try_ending};
 ghost use Rattle.mg_cursor.specs.Reading.{reader_of, told_advance, told_item, told_try};
-ghost use Rattle.mg_cursor.specs.Seeking.{ItemLeaves, SeekCaused, SeekLeaves, SeeksDocument, SeeksItem, TriesAdvance, TryLeaves, advance_ending, item_ending, one_if, times};
+ghost use Rattle.mg_cursor.specs.Seeking.{ItemLeaves, SeekCaused, SeekLeaves, SeeksDocument, SeeksItem, TriesAdvance, TryLeaves, advance_ending, item_ending, times};
 
 use crate::closing::Closing;
 use crate::documents::Documents;

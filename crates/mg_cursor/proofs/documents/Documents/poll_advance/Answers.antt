@@ -1,9 +1,10 @@
 use Rattle.std.proofs.Common.{◌+◌, refl, sym, ap, ◌∙◌}
+use Rattle.mg_link.specs.Causes.{one_if}
 use Rattle.mg_link.specs.Moment.{finished, moment}
 use Rattle.mg_link.proofs.Moments.{keeps_on, keeps_same}
 use Rattle.mg_cursor.specs.Client.{client_ticket}
 use Rattle.mg_cursor.specs.Documents.{DocumentCursor}
-use Rattle.mg_cursor.specs.Seeking.{one_if, times}
+use Rattle.mg_cursor.specs.Seeking.{times}
 use Rattle.mg_cursor.specs.View.{document_cursor}
 use Rattle.mg_cursor.proofs.Advancing.{advance_count}
 use Rattle.mg_cursor.proofs.Hearing.{keeps_to}

@@ -1,10 +1,11 @@
 use Rattle.std.proofs.Common.{Some, false, refl, sym, subst}
 use Rattle.mg_link.specs.Acts.{IsOut}
+use Rattle.mg_link.specs.Causes.{one_if}
 use Rattle.mg_link.specs.Session.{after_command}
 use Rattle.mg_link.specs.declared.session.ExplicitClientSessionHandle.{ExplicitClientSessionHandle}
 use Rattle.mg_cursor.specs.Client.{client_ticket}
 use Rattle.mg_cursor.specs.Documents.{DocumentCursor, try_ending}
-use Rattle.mg_cursor.specs.Seeking.{SeekCaused, one_if}
+use Rattle.mg_cursor.specs.Seeking.{SeekCaused}
 use Rattle.mg_cursor.specs.View.{document_cursor}
 use Rattle.mg_cursor.proofs.Giving.{session_kept, session_told}
 use Rattle.mg_cursor.proofs.session_cursor.SessionCursor.try_advance_in.Goals as goal
