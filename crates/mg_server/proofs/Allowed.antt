@@ -13,7 +13,7 @@ use Rattle.mg_server.specs.State.{Entry, Watch, Cursor, query, watching, State, 
 use Rattle.mg_server.specs.Commands.{Asked, asks_insert, asks_watch, asks_more, asks_kill, Failure, Told, refuses, inserted, opened, gave, killed, asked, told, asks_create, asks_indexes, done, asks_update, asks_delete, updated, deleted, asks_query, asks_drop}
 use Rattle.mg_server.specs.Step.{Made, grown, effect, next, documents_of, written, HaveNewIds, AreEventsOf, EndsAtInvalidate, MayGive, May, MayEnd}
 use Rattle.mg_server.specs.Events.{TellInserts, TellsWritten}
-use Rattle.mg_server.specs.Rules.{Request, insert, watch, more, kill, request_of, token_of, token_place, now_of, Inserted, inserting, inserted_reply, batch_place, Answer, answer_with, answer_insert, ended_before, place_after, place_at, watch_space, ends_watch, id_unless, batch_id, watch_reply, more_reply, is_watch_of, answer_more, killed_reply, size_of, answer, no_such_token, bad_request, max_reply, map_ok, and_then, refusal, refused, fitting, answer_of, create_collection, create_indexes, modified_entries, deleted_entries, collection_exists, done_reply, may_stay, find, batch_of_query, first_held, id_while, query_id, query_reply, query_more_reply, query_space, answer_query, no_such_collection, or_code, update, delete, updated_reply, events_may_be_given, drop_collection, dropped_entries, deleted_reply}
+use Rattle.mg_server.specs.Rules.{Request, insert, watch, more, kill, request_of, token_of, token_place, now_of, Inserted, inserting, inserted_reply, batch_place, Answer, answer_with, answer_insert, ended_before, place_after, place_at, watch_space, ends_watch, id_unless, batch_id, watch_reply, more_reply, is_watch_of, answer_more, killed_reply, size_of, answer, no_such_token, bad_request, max_reply, map_ok, where_ok, refusal, refused, fitting, answer_of, create_collection, create_indexes, modified_entries, deleted_entries, collection_exists, done_reply, may_stay, find, batch_of_query, first_held, id_while, query_id, query_reply, query_more_reply, query_space, answer_query, no_such_collection, or_code, update, delete, updated_reply, events_may_be_given, drop_collection, dropped_entries, deleted_reply}
 use Rattle.mg_server.specs.Kept.{made_by, made_none, made_these, given_by, IsStoreState, Kept, IsAllowed, made_of, given_after, rule_entries}
 use Rattle.mg_server.specs.Query.{index_listed, Source, of_collection, of_database, of_indexes, Query, read, through, result}
 use Rattle.mg_server.specs.Write.{Modification, chosen, changing, with_indexes, modified}
@@ -373,7 +373,7 @@ pub map_some : {A B : Type 0} (f : A → B) (r : Result A ℤ) (y : B) → map_o
 map_some f (Ok x) y h = let e : f x ≡ y = cc in (x, refl, e)
 map_some f (Err code) y h = absurd cc
 
-then_ok : {A B : Type 0} (f : A → Result B ℤ) (r : Result A ℤ) (y : B) → and_then f r ≡ Ok y → (x : A) × (r ≡ Ok x) × (f x ≡ Ok y)
+then_ok : {A B : Type 0} (f : A → Result B ℤ) (r : Result A ℤ) (y : B) → where_ok f r ≡ Ok y → (x : A) × (r ≡ Ok x) × (f x ≡ Ok y)
 then_ok f (Ok x) y h = (x, refl, h)
 then_ok f (Err code) y h = absurd cc
 
@@ -559,7 +559,7 @@ pub data Rule (s : State) (id : ℤ) (fs : Fields) (o : Answer) : Type 0 where
   refuses_by : (code : ℤ) → o ≡ refused code → Rule s id fs o
   answers_by : (r : Request) (a : Answer) → request_of fs ≡ Ok r → answer s id r ≡ Ok a → o ≡ a → Rule s id fs o
 
-rule_by : (s : State) (id : ℤ) (fs : Fields) (r : Result Answer ℤ) → and_then (answer s id) (request_of fs) ≡ r → Rule s id fs (fitting r)
+rule_by : (s : State) (id : ℤ) (fs : Fields) (r : Result Answer ℤ) → where_ok (answer s id) (request_of fs) ≡ r → Rule s id fs (fitting r)
 rule_by s id fs (Err code) e = refuses_by code refl
 rule_by s id fs (Ok a) e =
     let known = then_ok (answer s id) (request_of fs) a e in
@@ -568,7 +568,7 @@ rule_by s id fs (Ok a) e =
 -- the rules answer a request, or refuse
 pub rule_is : (s : State) (id : ℤ) (fs : Fields) → Rule s id fs (answer_of s id fs)
 unfolding answer_of
-rule_is s id fs = rule_by s id fs (and_then (answer s id) (request_of fs)) refl
+rule_is s id fs = rule_by s id fs (where_ok (answer s id) (request_of fs)) refl
 
 refusal_read : (s : State) (given : ℕ) (started : Bool) (command reply : List ℕ) (code : ℤ) (labels : List (List ℕ)) (entries : List Entry) → IsStoreState s given started → fields reply ≡ refusal code labels
     → FitsWithin s given started (asked command) (told (asked command) reply) entries

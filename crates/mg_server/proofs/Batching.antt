@@ -6,7 +6,7 @@ use Rattle.std.proofs.lemmas.Bool.{cond_both}
 use Rattle.mg_bson.specs.Bytes.{bytes}
 use Rattle.mg_server.specs.State.{Entry, Watch, sees, is_invalidate, between, seen_between}
 use Rattle.mg_server.specs.Step.{EndsAtInvalidate}
-use Rattle.mg_server.specs.Rules.{behind_given, behind_other, full_behind, place_behind, batch_place, max_batch, has_invalidate, id_unless, batch_id}
+use Rattle.mg_server.specs.Rules.{behind_given, behind_other, full_behind, place_or_end, batch_place, max_batch, has_invalidate, id_unless, batch_id}
 
 -- ---- the place behind a batch
 
@@ -36,7 +36,7 @@ full_within w (suc size) room given (e ∷ es) =
     (λ goes_on. within_given _ (length es) (full_within w size (room - length (bytes e.event)) true es))))
     (λ unseen. within_other _ (length es) (full_within w (suc size) room given es))
 
-place_within : (changes : List Entry) (from : ℕ) (o : Option ℕ) → from ≤ length changes → IsWithin o (length (drop from changes)) → (from ≤ place_behind changes from o) × (place_behind changes from o ≤ length changes)
+place_within : (changes : List Entry) (from : ℕ) (o : Option ℕ) → from ≤ length changes → IsWithin o (length (drop from changes)) → (from ≤ place_or_end changes from o) × (place_or_end changes from o ≤ length changes)
 place_within changes from None le h = (le, omega arith)
 place_within changes from (Some n) le h = let d = length-drop from changes in (omega arith, omega arith)
 
@@ -94,7 +94,7 @@ full_ends w (suc size) room given (e ∷ es) =
     (λ no_end. last_given w e es _ seen no_end (full_ends w size (room - length (bytes e.event)) true es))))
     (λ unseen. last_other w e es _ unseen (full_ends w (suc size) room given es))
 
-pub taken_between : (changes : List Entry) (from : ℕ) (o : Option ℕ) → from ≤ length changes → between changes from (place_behind changes from o) ≡ taken o (drop from changes)
+pub taken_between : (changes : List Entry) (from : ℕ) (o : Option ℕ) → from ≤ length changes → between changes from (place_or_end changes from o) ≡ taken o (drop from changes)
 taken_between changes from None le = let d = length-drop from changes in take_all (length changes - from) (drop from changes) (omega arith)
 taken_between changes from (Some n) le = let e : from + n - from ≡ n = omega arith in ap (λ (k : ℕ). take k (drop from changes)) e
 

@@ -7,7 +7,7 @@ use Rattle.std.proofs.lemmas.List.{drop-drop}
 use Rattle.mg_bson.specs.Bytes.{bytes}
 use Rattle.mg_bson.specs.Tree.{Fields}
 use Rattle.mg_server.specs.Batches.{EndsBehind, IsFullBatch, NextIsTooLarge}
-use Rattle.mg_server.specs.Rules.{batch_place, behind_given, behind_other, bytes_of, full_behind, max_batch, place_behind}
+use Rattle.mg_server.specs.Rules.{batch_place, behind_given, behind_other, bytes_of, full_behind, max_batch, place_or_end}
 use Rattle.mg_server.specs.State.{Entry, Watch, events_between, is_invalidate, sees}
 use Rattle.mg_server.proofs.Batched.{some_bytes}
 use Rattle.mg_server.proofs.Batching.{batch_within, taken, taken_between}
@@ -266,7 +266,7 @@ ends_at w changes from n e h =
     let count = h.count_is in
     record { before = from + h.before; begins = omega arith; place_is = omega arith; entry_is = get_dropped from changes h.before e h.entry_is; seen = h.seen }
 
-behind_at : (w : Watch) (changes : List Entry) (from : ℕ) (o : Option ℕ) → place_behind changes from o < length changes → EndsSeen w (drop from changes) o → (e : Entry) × EndsBehind w changes from (place_behind changes from o) e
+behind_at : (w : Watch) (changes : List Entry) (from : ℕ) (o : Option ℕ) → place_or_end changes from o < length changes → EndsSeen w (drop from changes) o → (e : Entry) × EndsBehind w changes from (place_or_end changes from o) e
 behind_at w changes from None before h = absurd (omega arith)
 behind_at w changes from (Some n) before h = (h.0, ends_at w changes from n h.0 h.1)
 
@@ -281,8 +281,8 @@ large_at w changes from n le before t =
       large = subst (λ (l : List Fields). max_batch < bytes_of l + length (bytes t.next)) (sym is) t.large;
     }
 
-full_at : (w : Watch) (changes : List Entry) (from size : ℕ) (o : Option ℕ) → from ≤ length changes → place_behind changes from o < length changes → length (shown w (taken o (drop from changes))) < size → Stops w size max_batch (drop from changes) o
-    → NextIsTooLarge w changes from (place_behind changes from o) ⊎ ((e : Entry) × EndsBehind w changes from (place_behind changes from o) e × (is_invalidate e.change ≡ true))
+full_at : (w : Watch) (changes : List Entry) (from size : ℕ) (o : Option ℕ) → from ≤ length changes → place_or_end changes from o < length changes → length (shown w (taken o (drop from changes))) < size → Stops w size max_batch (drop from changes) o
+    → NextIsTooLarge w changes from (place_or_end changes from o) ⊎ ((e : Entry) × EndsBehind w changes from (place_or_end changes from o) e × (is_invalidate e.change ≡ true))
 full_at w changes from size None le before short h = absurd (omega arith)
 full_at w changes from size (Some n) le before short (inl count) = absurd (omega arith)
 full_at w changes from size (Some n) le before short (inr (inl t)) = inl (large_at w changes from n le before t)
@@ -307,11 +307,11 @@ none_at w changes from le =
 
 pub is_full_batch : (w : Watch) (changes : List Entry) (from size : ℕ) → from ≤ length changes → IsFullBatch w changes from size (batch_place w changes from size)
 is_full_batch w changes from zero le =
-    subst (λ (o : Option ℕ). IsFullBatch w changes from 0 (place_behind changes from o)) (sym (none_behind w max_batch false (drop from changes))) (none_at w changes from le)
+    subst (λ (o : Option ℕ). IsFullBatch w changes from 0 (place_or_end changes from o)) (sym (none_behind w max_batch false (drop from changes))) (none_at w changes from le)
 is_full_batch w changes from (suc size) le =
     let o : Option ℕ = full_behind w (suc size) max_batch false (drop from changes) in
     let h : Begins w (suc size) max_batch (drop from changes) o = begins w size max_batch (drop from changes) in
-    let is : events_between w changes from (place_behind changes from o) ≡ shown w (taken o (drop from changes)) = ap (shown w) (taken_between changes from o le) in
+    let is : events_between w changes from (place_or_end changes from o) ≡ shown w (taken o (drop from changes)) = ap (shown w) (taken_between changes from o le) in
     let all : events_between w changes from (length changes) ≡ shown w (drop from changes) = ap (shown w) (taken_between changes from None le) in
     record {
       within = batch_within w changes from (suc size) le;

@@ -2,7 +2,7 @@
 use Rattle.std.specs.Prelude.{◌≡◌, ℕ, ℤ, pos, Bool, true, false, Option, Some, None, option_map, option_and_then, unwrap_or, List, [], ◌∷◌, codes, if◌then◌else◌, zero, suc, negsuc, length, is_some, nat_lt, nat_le, ◌&&◌, ◌||◌, ◌++◌}
 use Rattle.std.specs.Ordering.{int_eq}
 use Rattle.std.specs.Str.{bytes_eq}
-use Rattle.mg_bson.specs.Tree.{Tree, document, array, int32, int64, timestamp, Fields, no_fields, field, Items, no_items, item}
+use Rattle.mg_bson.specs.Tree.{Tree, document, array, timestamp, Fields, no_fields, field, Items, no_items, item}
 use Rattle.mg_bson.specs.Raw.{fields}
 use Rattle.mg_bson.specs.Find.{get, as_string, as_document, as_array, as_int32, as_int64, as_boolean}
 use Rattle.mg_link.specs.Namespace.{Space, space_of, Target, database, collection, cluster, as_database, as_collection}

@@ -1,8 +1,8 @@
 -- Files in a server's collections (GridFS specification: the files collection, the chunks collection).
-use Rattle.std.specs.Prelude.{◌≡◌, ◌≤◌, ◌<◌, ℕ, suc, ◌+◌, ◌==◌, ℤ, pos, true, false, Option, Some, option_and_then, List, [], ◌∷◌, ◌++◌, length, take, slice_get, Contains, codes, if◌then◌else◌}
+use Rattle.std.specs.Prelude.{◌≡◌, ◌≤◌, ℕ, suc, ◌+◌, pos, true, false, Some, option_and_then, List, [], ◌∷◌, ◌++◌, length, take, slice_get, Contains, codes}
 use Rattle.std.specs.List.{filter}
 use Rattle.mg_bson.specs.Tree.{Tree, binary, Fields, no_items, item}
-use Rattle.mg_bson.specs.Find.{as_int32, get}
+use Rattle.mg_bson.specs.Find.{get}
 use Rattle.mg_link.specs.Namespace.{Space}
 use Rattle.mg_link.specs.Chunks.{chunked}
 use Rattle.mg_server.specs.Filter.{Condition, matches, meets}

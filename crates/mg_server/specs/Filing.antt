@@ -87,11 +87,22 @@ pub record IsOwnStep (past : Past) (position : ℕ) : Type 0 where
   pub there : slice_get past.calls place ≡ Some call
   pub placed : call.position ≡ Some position
 
--- Nobody else touches the file: each step that is not the upload's own leaves it as it was.
-abbrev pub OthersLeave : Past → List Step → Bucket → Tree → Type 0
-OthersLeave past history b id = (position : ℕ) (step : Step) → slice_get history position ≡ Some step → IsOwnStep past position ⊎ LeavesFile (state_of (take position history)) step b id
+-- From one position on nobody else touches the file: each step that is not the upload's own leaves it as it was. Nothing of it was there, and the upload had no step before.
+pub record OthersLeave (past : Past) (history : List Step) (b : Bucket) (id : Tree) : Type 0 where
+  pub from : ℕ
+  pub nothing : file_of (state_of (take from history)) b id ≡ no_file
+  pub later : (position : ℕ) → IsOwnStep past position → from ≤ position
+  pub each : (position : ℕ) (step : Step) → from ≤ position → slice_get history position ≡ Some step → IsOwnStep past position ⊎ LeavesFile (state_of (take position history)) step b id
 
 -- ---- what an upload knows
+
+-- nothing of the file is said to be there
+abbrev pub SaysNothing : Filing → Type 0
+SaysNothing (stays file) = file ≡ no_file
+SaysNothing (becomes place command file) = Unit {0}
+SaysNothing unknown = Unit {0}
+SaysNothing (clears place command) = Unit {0}
+SaysNothing cleared = Unit {0}
 
 -- In every legal history in which the log stands and nobody else touches the file, it is as the upload takes it to be.
 pub record KnowsFile (past : Past) (b : Bucket) (id : Tree) (filing : Filing) : Type 0 where
@@ -100,6 +111,8 @@ pub record KnowsFile (past : Past) (b : Bucket) (id : Tree) (filing : Filing) : 
   pub room : past.since ≤ length past.calls
   pub flies : (place : ℕ) → waited filing ≡ Some place → IsOwn past place × ((call : Call) × (slice_get past.calls place ≡ Some call))
   pub each : (history : List Step) → IsLegal history → Stands past.calls history → OthersLeave past history b id → FileAs past.calls history b id filing
+  -- as long as no call of it took effect
+  pub none : (history : List Step) → IsLegal history → Stands past.calls history → ((position : ℕ) → IsOwnStep past position → ⊥) → SaysNothing filing
 
 -- ---- what its commands do
 

@@ -388,13 +388,14 @@ full_behind w (suc size) room given (e ∷ es) = if sees w e
     else (if is_invalidate e.change then Some 1 else behind_given (full_behind w size (room - length (bytes e.event)) true es)))
     else behind_other (full_behind w (suc size) room given es)
 
-abbrev pub place_behind : List Entry → ℕ → Option ℕ → ℕ
-place_behind changes from None = length changes
-place_behind changes from (Some n) = from + n
+-- the place behind so many more entries, or the end of the list where no number is said
+abbrev pub place_or_end : List Entry → ℕ → Option ℕ → ℕ
+place_or_end changes from None = length changes
+place_or_end changes from (Some n) = from + n
 
 -- the place behind a batch: a full one ends behind its last entry, and another at the end
 abbrev pub batch_place : Watch → List Entry → ℕ → ℕ → ℕ
-batch_place w changes from size = place_behind changes from (full_behind w size max_batch false (drop from changes))
+batch_place w changes from size = place_or_end changes from (full_behind w size max_batch false (drop from changes))
 
 abbrev pub documents_of_items : List Fields → Items
 documents_of_items [] = no_items
@@ -481,9 +482,10 @@ abbrev pub map_ok : {A B : Type 0} → (A → B) → Result A ℤ → Result B �
 map_ok f (Ok x) = Ok (f x)
 map_ok f (Err code) = Err code
 
-abbrev pub and_then : {A B : Type 0} → (A → Result B ℤ) → Result A ℤ → Result B ℤ
-and_then f (Ok x) = f x
-and_then f (Err code) = Err code
+-- asked of a value, where there is one, and else its code
+abbrev pub where_ok : {A B : Type 0} → (A → Result B ℤ) → Result A ℤ → Result B ℤ
+where_ok f (Ok x) = f x
+where_ok f (Err code) = Err code
 
 -- a reply and the entries that its command adds
 pub record Answer : Type 0 where
@@ -622,7 +624,7 @@ abbrev pub answer_drop : State → Space → Result Answer ℤ
 answer_drop s space = if is_some (collection_in s.collections space) then Ok (answer_with (dropped_entries (length s.changes) space) done_reply) else Err no_such_collection
 
 abbrev pub answer_query : State → ℤ → Query → Result Answer ℤ
-answer_query s id q = and_then (λ ds. map_ok (λ result. answer_with [] (query_reply id q result)) (or_code bad_request (through q.stages ds))) (or_code no_such_collection (read s q.source))
+answer_query s id q = where_ok (λ ds. map_ok (λ result. answer_with [] (query_reply id q result)) (or_code bad_request (through q.stages ds))) (or_code no_such_collection (read s q.source))
 
 -- what the store answers to a request; id is the next one that it gives to a cursor
 abbrev pub answer : State → ℤ → Request → Result Answer ℤ
@@ -651,4 +653,4 @@ fitting (Ok a) = if nat_le (length (bytes a.reply)) max_reply && nat_le (levels 
 
 -- what the store answers to a command
 unfoldable pub answer_of : State → ℤ → Fields → Answer
-answer_of s id command = fitting (and_then (answer s id) (request_of command))
+answer_of s id command = fitting (where_ok (answer s id) (request_of command))
