@@ -10,7 +10,7 @@ use Rattle.mg_chunks.specs.declared.sizes.FileSizes.{FileSizes}
 use Rattle.mg_chunks.specs.Broken.{broken}
 use Rattle.mg_chunks.specs.Chunks.{all_judged, and_then, judged, needed_as}
 use Rattle.mg_chunks.specs.Judging.{IsPlaceBehind, JudgesOne, TakesChunk}
-use Rattle.mg_chunks.specs.declared.judging.Place.{Place}
+use Rattle.mg_chunks.specs.declared.judging.ReadPlace.{ReadPlace}
 
 -- ---- the first of a batch
 
@@ -45,14 +45,14 @@ behind_one chunks bytes (Ok more) = ap (λ (l : List (List ℕ)). Ok l) (sym (ap
 behind_one chunks bytes (Err e) = refl
 
 -- So far a look has come: those looked at were in order, and what becomes of the others becomes of all.
-pub record CameTo (f : FileSizes) (start p : Place) (batch left : Items) : Type 0 where
+pub record CameTo (f : FileSizes) (start p : ReadPlace) (batch left : Items) : Type 0 where
   pub chunks : List (List ℕ)
   pub so_far : all_judged f start.taken batch ≡ behind_those chunks (all_judged f p.taken left)
   pub taken : p.taken ≡ start.taken + length chunks
   pub few : p.taken ≤ 2 ^ 31
   pub missing : p.missing ≡ start.missing - length (concat chunks)
 
-pub came_none : (f : FileSizes) (p : Place) (batch left : Items) → left ≡ batch → p.taken ≤ 2 ^ 31 → CameTo f p p batch left
+pub came_none : (f : FileSizes) (p : ReadPlace) (batch left : Items) → left ≡ batch → p.taken ≤ 2 ^ 31 → CameTo f p p batch left
 came_none f p batch left is few =
     let taken : p.taken ≡ p.taken + 0 = omega arith in
     let missing : p.missing ≡ p.missing - 0 = omega arith in
@@ -67,7 +67,7 @@ bytes_longer : (chunks : List (List ℕ)) (bytes : List ℕ) → length (concat 
 bytes_longer chunks bytes =
     ap (length {A = ℕ}) (concat-append chunks (bytes ∷ []) ∙ ap (λ (l : List ℕ). concat chunks ++ l) (append-nil bytes)) ∙ length-append (concat chunks) bytes
 
-pub came_on : (f : FileSizes) (start p p' : Place) (batch left left' : Items) (t : Tree) → CameTo f start p batch left → left ≡ item t left' → JudgesOne f p t p' → CameTo f start p' batch left'
+pub came_on : (f : FileSizes) (start p p' : ReadPlace) (batch left left' : Items) (t : Tree) → CameTo f start p batch left → left ≡ item t left' → JudgesOne f p t p' → CameTo f start p' batch left'
 came_on f start p p' batch left left' t h is one =
     let takes = one.takes in
     let longer = one_longer h.chunks takes.bytes in
@@ -86,7 +86,7 @@ came_on f start p p' batch left left' t h is one =
     }
 
 -- no item is left
-pub came_all : (f : FileSizes) (start p : Place) (batch left : Items) → CameTo f start p batch left → left ≡ no_items → IsPlaceBehind f start batch p
+pub came_all : (f : FileSizes) (start p : ReadPlace) (batch left : Items) → CameTo f start p batch left → left ≡ no_items → IsPlaceBehind f start batch p
 came_all f start p batch left h is =
     record {
       chunks = h.chunks;
@@ -97,10 +97,10 @@ came_all f start p batch left h is =
     }
 
 -- the next one differs
-pub came_differing : (f : FileSizes) (start p : Place) (batch left left' : Items) (t : Tree) (e : Error) → CameTo f start p batch left → left ≡ item t left' → ((more : Items) → all_judged f p.taken (item t more) ≡ Err e) → all_judged f start.taken batch ≡ Err e
+pub came_differing : (f : FileSizes) (start p : ReadPlace) (batch left left' : Items) (t : Tree) (e : Error) → CameTo f start p batch left → left ≡ item t left' → ((more : Items) → all_judged f p.taken (item t more) ≡ Err e) → all_judged f start.taken batch ≡ Err e
 came_differing f start p batch left left' t e h is differs =
     h.so_far ∙ ap (λ (ts : Items). behind_those h.chunks (all_judged f p.taken ts)) is ∙ ap (behind_those h.chunks) (differs left')
 
 -- an item that is a document
-pub judges_one : (f : FileSizes) (p p' : Place) (t : Tree) (d : Fields) → as_document t ≡ Some d → TakesChunk f p d p' → JudgesOne f p t p'
+pub judges_one : (f : FileSizes) (p p' : ReadPlace) (t : Tree) (d : Fields) → as_document t ≡ Some d → TakesChunk f p d p' → JudgesOne f p t p'
 judges_one f p p' t d is takes = record { chunk = d; is_document = is; takes = takes }

@@ -6,6 +6,7 @@ use Rattle.std.specs.declared.alloc.Global.{Global}
 use Rattle.mg_chunks.specs.declared.buffer.Buffer.{Buffer}
 use Rattle.mg_chunks.specs.declared.buffer.Cut.{Cut}
 
+-- the bytes of each chunk
 abbrev pub items_of : List (Vec ℕ Global) → List (List ℕ)
 items_of chunks = map (λ (chunk : Vec ℕ Global). chunk.items) chunks
 
@@ -42,5 +43,5 @@ pub record IsCutOf (size : ℕ) (bytes : List ℕ) (c : Cut) : Type 0 where
   pub short : length c.rest.items < size
 
 -- there is a place for each of the chunks
-abbrev pub HasRoom : Buffer → Cut → Type 0
-HasRoom b c = deque_len b.full + (deque_len c.full + 1) ≤ deque_capacity b.full
+abbrev pub HasRoomForCut : Buffer → Cut → Type 0
+HasRoomForCut b c = deque_len b.full + (deque_len c.full + 1) ≤ deque_capacity b.full

@@ -22,6 +22,7 @@ missing_chunk n = plain (kind.GridFs (grid.MissingChunk n))
 abbrev pub wrong_size : (n actual expected : ℕ) → Error
 wrong_size n actual expected = plain (kind.GridFs (grid.WrongSizeChunk n actual expected))
 
+-- the bytes of a binary, given with its subtype, where that is 0
 abbrev pub of_subtype_0 : ℕ × List ℕ → Option (List ℕ)
 of_subtype_0 b = if b.0 == 0 then Some b.1 else None
 

@@ -4,5 +4,5 @@ use Rattle.mg_chunks.specs.declared.closing.Closing.{Closing}
 use Rattle.mg_chunks.specs.declared.closing.Closing.TheVariants as closing
 
 -- next, where so many bytes are left: the record comes behind all chunks
-abbrev pub closing_by : ℕ → Closing
-closing_by left = if nat_lt 0 left then closing.LastChunk else closing.Record
+abbrev pub next_in_close : ℕ → Closing
+next_in_close left = if nat_lt 0 left then closing.LastChunk else closing.Record

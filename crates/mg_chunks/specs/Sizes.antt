@@ -20,6 +20,7 @@ counted n = if ltb n (2 ^ 32) then Ok n else Err malformed.TooManyChunks
 abbrev pub chunk_count_of : ℕ → ℕ → Result ℕ Malformed
 chunk_count_of length size = if size == 0 then Err malformed.ChunkSizeZero else counted (chunk_count length size)
 
+-- this length, where the chunks of the file could be counted, and else why not
 abbrev pub where_counted : Result ℕ Malformed → ℕ → Result ℕ Malformed
 where_counted (Ok count) length = Ok length
 where_counted (Err m) length = Err m

@@ -1,7 +1,7 @@
 //! Bytes that are cut into chunks as they are taken.
 ghost use Rattle.std.specs.Prelude.{◌≡◌, ◌++◌, ◌∷◌, ◌+◌, ◌<◌, ◌≤◌, [], IfOk, IfSome, IfNone, OnErr, OnOk, length};
 ghost use Rattle.std.specs.VecDeque.{deque_capacity, deque_len};
-ghost use Rattle.mg_chunks.specs.Buffers.{HasRoom, HoldsCut, IsCutOf, full_of, held_of, items_of, rest_of, size_of};
+ghost use Rattle.mg_chunks.specs.Buffers.{HasRoomForCut, HoldsCut, IsCutOf, full_of, held_of, items_of, rest_of, size_of};
 
 use std::alloc::{AllocError, Global};
 use std::collections::VecDeque;
@@ -131,7 +131,7 @@ impl Buffer {
 
     // The chunk that was begun is full, and more stand behind it. There is room for them.
     fn add(&mut self, added: Cut)
-        requires { HasRoom self.old added }
+        requires { HasRoomForCut self.old added }
         ensures full { items_of self.new.full.items ≡ items_of self.old.full.items ++ self.old.rest.items ∷ items_of added.full.items }
         ensures rest { self.new.rest.items ≡ added.rest.items }
         ensures size { size_of self.new ≡ size_of self.old }

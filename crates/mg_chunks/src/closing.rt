@@ -1,6 +1,6 @@
 //! What the close of an upload stores.
 ghost use Rattle.std.specs.Prelude.{◌≡◌};
-ghost use Rattle.mg_chunks.specs.Closings.{closing_by};
+ghost use Rattle.mg_chunks.specs.Closings.{next_in_close};
 
 /// What the close of an upload stores next.
 #[derive(Clone, Copy)]
@@ -13,7 +13,7 @@ pub enum Closing {
 
 /// What a close stores next where so many bytes are left behind the full chunks: the record comes behind all chunks.
 pub fn next_in_close(left: usize) -> Closing
-    ensures { result ≡ closing_by left }
+    ensures { result ≡ next_in_close left }
 {
     if left > 0 {
         Closing::LastChunk

@@ -16,7 +16,7 @@ use mg_link::{Error, ErrorKind, GridFsErrorKind, Malformed, plain};
 
 /// How far a read has come.
 #[derive(Clone, Copy)]
-pub struct Place {
+pub struct ReadPlace {
     /// How many chunks were received.
     pub taken: u32,
     /// How many bytes are missing.
@@ -160,7 +160,11 @@ fn judge<'a>(file: &FileSizes, n: u32, chunk: &RawDocument<'a>) -> Result<&'a [u
 }
 
 // Looks at the next chunk.
-fn judge_next(file: &FileSizes, place: Place, chunk: &RawDocument<'_>) -> Result<Place, Error>
+fn judge_next(
+    file: &FileSizes,
+    place: ReadPlace,
+    chunk: &RawDocument<'_>,
+) -> Result<ReadPlace, Error>
     ensures ok { IfOk result (TakesChunk file.now place (fields chunk.now)) }
     ensures err { IfErr result (λ e. judged file.now place.taken (fields chunk.now) ≡ Err e) }
 {
@@ -168,14 +172,14 @@ fn judge_next(file: &FileSizes, place: Place, chunk: &RawDocument<'_>) -> Result
         Ok(bytes) => {
             let taken = place.taken + 1;
             let missing = place.missing.saturating_sub(bytes.len());
-            Ok(Place { taken, missing })
+            Ok(ReadPlace { taken, missing })
         }
         Err(error) => Err(error),
     }
 }
 
 // The same, where the item is a document.
-fn judge_item(file: &FileSizes, place: Place, found: &RawValue<'_>) -> Result<Place, Error>
+fn judge_item(file: &FileSizes, place: ReadPlace, found: &RawValue<'_>) -> Result<ReadPlace, Error>
     ensures ok { IfOk result (JudgesOne file.now place (value found.now)) }
     ensures err { IfErr result (λ e. (more : Items) → all_judged file.now place.taken (item (value found.now) more) ≡ Err e) }
 {
@@ -186,7 +190,11 @@ fn judge_item(file: &FileSizes, place: Place, found: &RawValue<'_>) -> Result<Pl
 }
 
 /// Looks at each chunk of a batch, in order, and at no byte of them. It takes no memory.
-pub fn judge_all(file: &FileSizes, place: Place, batch: &RawArray<'_>) -> Result<Place, Error>
+pub fn judge_all(
+    file: &FileSizes,
+    place: ReadPlace,
+    batch: &RawArray<'_>,
+) -> Result<ReadPlace, Error>
     requires { place.taken ≤ 2 ^ 31 }
     ensures ok { IfOk result (IsPlaceBehind file.now place (items batch.now)) }
     ensures err { IfErr result (λ e. all_judged file.now place.taken (items batch.now) ≡ Err e) }

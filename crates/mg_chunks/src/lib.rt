@@ -13,5 +13,5 @@ pub use buffer::Buffer;
 pub use closing::{Closing, next_in_close};
 pub use filters::of_file;
 pub use found::first_document;
-pub use judging::{Place, broken, data_of, has_all_chunks, judge_all, missing_chunk};
+pub use judging::{ReadPlace, broken, data_of, has_all_chunks, judge_all, missing_chunk};
 pub use sizes::{FileSizes, expected_chunk_length, last_number, n_from_vals};

@@ -9,8 +9,8 @@ use Rattle.mg_script.specs.Script.{script_of, missing}
 use Rattle.mg_script.specs.Places.{place_text}
 use Rattle.mg_script.specs.Text.{line}
 use Rattle.mg_script.specs.declared.fault.Place.{Place}
-use Rattle.mg_program.specs.declared.refusal.Refusal.{Refusal}
-use Rattle.mg_program.specs.declared.refusal.Refusal.TheVariants as refusals
+use Rattle.mg_program.specs.declared.refusal.RunRefusal.{RunRefusal}
+use Rattle.mg_program.specs.declared.refusal.RunRefusal.TheVariants as refusals
 
 -- the words are just `run`
 abbrev pub is_run : List (List ℕ) → Bool
@@ -51,7 +51,7 @@ ReadMissing old new n = (script : Plan) × ReadScript old new script × LacksJob
 -- ---- why no jobs are run
 
 -- when it comes to each
-abbrev pub RefusedFor : List (List ℕ) → Option (List ℕ) → Option (List ℕ) → ℕ → ℕ → Refusal → Type 0
+abbrev pub RefusedFor : List (List ℕ) → Option (List ℕ) → Option (List ℕ) → ℕ → ℕ → RunRefusal → Type 0
 RefusedFor words old new before now refusals.Usage = is_run words ≡ false
 RefusedFor words old new before now refusals.ReadFault = (is_run words ≡ true) × Rose before now
 RefusedFor words old new before now refusals.TooLong = (is_run words ≡ true) × ReadTooMuch old new
@@ -64,7 +64,7 @@ abbrev pub IsScript : List ℕ → Plan → Type 0
 IsScript bytes script = (length bytes ≤ longest) × (script_of bytes ≡ Ok script)
 
 -- the refusal is of these words and these bytes, which were all that was left
-abbrev pub IsRefusalOf : List (List ℕ) → List ℕ → Refusal → Type 0
+abbrev pub IsRefusalOf : List (List ℕ) → List ℕ → RunRefusal → Type 0
 IsRefusalOf words bytes refusals.Usage = is_run words ≡ false
 IsRefusalOf words bytes refusals.ReadFault = is_run words ≡ true
 IsRefusalOf words bytes refusals.TooLong = (is_run words ≡ true) × (longest < length bytes)
@@ -72,7 +72,8 @@ IsRefusalOf words bytes (refusals.BadScript p) = (is_run words ≡ true) × (len
 IsRefusalOf words bytes (refusals.NoSuchJob n) = (is_run words ≡ true) × ((script : Plan) × IsScript bytes script × LacksJob script n)
 IsRefusalOf words bytes refusals.OutOfMemory = is_run words ≡ true
 
-abbrev pub refusal_status : Refusal → ℕ
+-- the exit status that says it
+abbrev pub refusal_status : RunRefusal → ℕ
 refusal_status refusals.Usage = 1
 refusal_status refusals.ReadFault = 2
 refusal_status refusals.TooLong = 7
@@ -80,7 +81,8 @@ refusal_status (refusals.BadScript p) = 3
 refusal_status (refusals.NoSuchJob n) = 5
 refusal_status refusals.OutOfMemory = 6
 
-abbrev pub refusal_text : Refusal → List ℕ
+-- the text that is written of it
+abbrev pub refusal_text : RunRefusal → List ℕ
 refusal_text refusals.Usage = codes "usage: jobs run | jobs share | jobs grow N\n"
 refusal_text refusals.ReadFault = codes "read fault\n"
 refusal_text refusals.TooLong = codes "script too long\n"
@@ -95,7 +97,7 @@ abbrev pub EndingTold : ℕ → List ℕ → ℕ → Option (List ℕ) → Optio
 EndingTold meant text status old new before now = ((status ≡ meant) × Appends old new text) ⊎ ((status ≡ 4) × Rose before now × TookFront old new text)
 
 -- as what a refusal is told where memory runs out for its text
-abbrev pub short_refusal : Refusal → Refusal
+abbrev pub short_refusal : RunRefusal → RunRefusal
 short_refusal refusals.Usage = refusals.Usage
 short_refusal refusals.ReadFault = refusals.ReadFault
 short_refusal refusals.TooLong = refusals.TooLong
@@ -104,9 +106,9 @@ short_refusal (refusals.NoSuchJob n) = refusals.OutOfMemory
 short_refusal refusals.OutOfMemory = refusals.OutOfMemory
 
 -- the status and the text are those of the refusal
-abbrev pub RefusalTold : Refusal → ℕ → Option (List ℕ) → Option (List ℕ) → ℕ → ℕ → Type 0
+abbrev pub RefusalTold : RunRefusal → ℕ → Option (List ℕ) → Option (List ℕ) → ℕ → ℕ → Type 0
 RefusalTold refusal status old new before now = EndingTold (refusal_status refusal) (refusal_text refusal) status old new before now
 
 -- it was told as itself, or memory ran out for its text
-abbrev pub IsRefusalTold : Refusal → ℕ → Option (List ℕ) → Option (List ℕ) → ℕ → ℕ → Type 0
+abbrev pub IsRefusalTold : RunRefusal → ℕ → Option (List ℕ) → Option (List ℕ) → ℕ → ℕ → Type 0
 IsRefusalTold refusal status old new before now = RefusalTold refusal status old new before now ⊎ RefusalTold (short_refusal refusal) status old new before now

@@ -5,4 +5,4 @@ mod read;
 mod refusal;
 
 pub use read::read_script;
-pub use refusal::{Refusal, refuse, say};
+pub use refusal::{RunRefusal, refuse, say};

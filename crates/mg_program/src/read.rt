@@ -3,7 +3,7 @@ ghost use Rattle.std.specs.Prelude.{◌≡◌, true, map, string_bytes, IfErr, I
 ghost use Rattle.mg_script.specs.Plan.{plan};
 ghost use Rattle.mg_program.specs.Refusals.{HasJobs, ReadScript, RefusedFor, is_run};
 
-use crate::refusal::Refusal;
+use crate::refusal::RunRefusal;
 use mg_link::{InputError, Source, read_all};
 use mg_script::{Script, ScriptError, missing, parse_script};
 use std::alloc::Global;
@@ -22,7 +22,7 @@ pub fn read_script<S: Source>(
     alloc: Global,
     words: &[String],
     source: &mut S,
-) -> Result<Script, Refusal>
+) -> Result<Script, RunRefusal>
     ensures asked { IfOk result (λ s. is_run (map string_bytes words.now) ≡ true) }
     ensures script { IfOk result (λ s. ReadScript (S.left source.old) (S.left source.new) (plan s)) }
     ensures jobs { IfOk result (λ s. HasJobs (plan s)) }
@@ -30,21 +30,21 @@ pub fn read_script<S: Source>(
         (S.faults source.old) (S.faults source.new) r) }
 {
     if !is_run(words) {
-        return Err(Refusal::Usage);
+        return Err(RunRefusal::Usage);
     }
     let bytes = match read_all(alloc, source) {
         Ok(bytes) => bytes,
-        Err(InputError::Memory) => return Err(Refusal::OutOfMemory),
-        Err(InputError::Fault) => return Err(Refusal::ReadFault),
-        Err(InputError::TooLong) => return Err(Refusal::TooLong),
+        Err(InputError::Memory) => return Err(RunRefusal::OutOfMemory),
+        Err(InputError::Fault) => return Err(RunRefusal::ReadFault),
+        Err(InputError::TooLong) => return Err(RunRefusal::TooLong),
     };
     let script = match parse_script(alloc, bytes.as_slice()) {
         Ok(script) => script,
-        Err(ScriptError::OutOfMemory) => return Err(Refusal::OutOfMemory),
-        Err(ScriptError::Fault(place)) => return Err(Refusal::BadScript(place)),
+        Err(ScriptError::OutOfMemory) => return Err(RunRefusal::OutOfMemory),
+        Err(ScriptError::Fault(place)) => return Err(RunRefusal::BadScript(place)),
     };
     match missing(&script) {
-        Some(n) => Err(Refusal::NoSuchJob(n)),
+        Some(n) => Err(RunRefusal::NoSuchJob(n)),
         None => Ok(script),
     }
 }

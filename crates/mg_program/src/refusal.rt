@@ -10,7 +10,7 @@ use std::alloc::Global;
 
 /// Why no jobs are run.
 #[derive(Clone, Copy)]
-pub enum Refusal {
+pub enum RunRefusal {
     /// The words are not those of a mode.
     Usage,
     /// The source failed.
@@ -63,15 +63,15 @@ fn refuse_job<K: Sink>(alloc: Global, n: u32, sink: &mut K) -> u8
 }
 
 /// Writes why no jobs are run, and answers the status of that, or 4 where the sink failed.
-pub fn refuse<K: Sink>(alloc: Global, refusal: Refusal, sink: &mut K) -> u8
+pub fn refuse<K: Sink>(alloc: Global, refusal: RunRefusal, sink: &mut K) -> u8
     ensures { IsRefusalTold refusal result (K.taken sink.old) (K.taken sink.new) (K.faults sink.old) (K.faults sink.new) }
 {
     match refusal {
-        Refusal::Usage => say(sink, 1, "usage: jobs run | jobs share | jobs grow N\n"),
-        Refusal::ReadFault => say(sink, 2, "read fault\n"),
-        Refusal::TooLong => say(sink, 7, "script too long\n"),
-        Refusal::BadScript(place) => refuse_script(alloc, place, sink),
-        Refusal::NoSuchJob(n) => refuse_job(alloc, n, sink),
-        Refusal::OutOfMemory => say(sink, 6, "out of memory\n"),
+        RunRefusal::Usage => say(sink, 1, "usage: jobs run | jobs share | jobs grow N\n"),
+        RunRefusal::ReadFault => say(sink, 2, "read fault\n"),
+        RunRefusal::TooLong => say(sink, 7, "script too long\n"),
+        RunRefusal::BadScript(place) => refuse_script(alloc, place, sink),
+        RunRefusal::NoSuchJob(n) => refuse_job(alloc, n, sink),
+        RunRefusal::OutOfMemory => say(sink, 6, "out of memory\n"),
     }
 }

@@ -17,6 +17,6 @@ abbrev pub KillsIf : Bool → ℤ → PinnedConnection → Type 0
 KillsIf true id connection = MayAsk id connection
 KillsIf false id connection = IsOver id connection
 
--- the server may hold more of it, or documents are in hand
+-- the server may hold more of a cursor with this id, or documents of it are in hand; the type says that some are
 abbrev pub HasNext : ℤ → Type 0 → Type 0
 HasNext id HoldsDocuments = (id ≢ pos 0) ⊎ HoldsDocuments

@@ -1,6 +1,6 @@
 //! Where a change stream resumes.
 ghost use Rattle.std.specs.Prelude.{◌≡◌, true};
-ghost use Rattle.mg_steps.specs.Resuming.{ResumesBy};
+ghost use Rattle.mg_steps.specs.Resuming.{IsResumptionOf};
 
 /// The first wire version at which a server takes a time to start at.
 pub const TIMES_FROM: i32 = 7;
@@ -33,7 +33,7 @@ pub struct Standing {
 
 /// How a change stream that stands so resumes over a link of this wire version.
 pub fn resumption_of(standing: Standing, wire: i32) -> Resumption
-    ensures { ResumesBy standing wire result }
+    ensures { IsResumptionOf standing wire result }
 {
     if standing.has_token {
         return behind_token(standing, wire);
@@ -47,7 +47,7 @@ pub fn resumption_of(standing: Standing, wire: i32) -> Resumption
 // The same of one that has a token: `startAfter` is kept until a document was returned, since `resumeAfter` takes no token behind an invalidation.
 fn behind_token(standing: Standing, wire: i32) -> Resumption
     requires { standing.has_token ≡ true }
-    ensures { ResumesBy standing wire result }
+    ensures { IsResumptionOf standing wire result }
 {
     if standing.starts_after && !standing.document_returned {
         Resumption::StartAfter

@@ -16,7 +16,7 @@ use Rattle.mg_link.specs.Namespace.{Space, Target, space, target}
 use Rattle.mg_server.specs.State.{Entry, Watch, Cursor, query, watching, State, Start, is_space, Index, collection_in, indexes_of}
 use Rattle.mg_server.specs.Step.{documents_of}
 use Rattle.mg_server.specs.Rules as rules
-use Rattle.mg_server.specs.Rules.{Inserted, answer_insert, dropped_entries, bad_request, batch_id, batch_place, cursor_fields, fitting, id_unless, ids_if, is_watch_of, refused, watch_space, size_of, stamp_of, token_of, errors_field, inserted_reply, inserting, number_of, place_at, may_stay, and_then, answer_query, batch_of_query, documents_of_items, first_held, id_while, map_ok, no_such_collection, or_code, query_id, query_space, deleted_reply}
+use Rattle.mg_server.specs.Rules.{Inserted, answer_insert, dropped_entries, bad_request, batch_id, batch_place, cursor_fields, fitting, id_unless, ids_if, is_watch_of, refused, watch_space, size_of, stamp_of, token_of, errors_field, inserted_reply, inserting, number_of, place_at, may_stay, where_ok, answer_query, batch_of_query, documents_of_items, first_held, id_while, map_ok, no_such_collection, or_code, query_id, query_space, deleted_reply}
 use Rattle.mg_server.specs.Query.{id_index, index_listed, of_indexes, Query, read, result, through}
 use Rattle.mg_server.specs.Commands.{query_by, KeepsId}
 use Rattle.mg_server.specs.Write.{with_indexes, Modification, chosen, changing}
@@ -205,7 +205,7 @@ found_answer s id q ds e = by_rows (read s q.source) e
     by_result (Some r) f = let same : r ≡ ds = cc in ap (λ (x : List Fields). Ok (rules.answer_with [] (rules.query_reply id q x))) same
 
     by_rows : (o : Option (List Fields)) → option_and_then (through q.stages) o ≡ Some ds
-        → and_then (λ (rows : List Fields). map_ok (λ r. rules.answer_with [] (rules.query_reply id q r)) (or_code bad_request (through q.stages rows))) (or_code no_such_collection o) ≡ Ok (rules.answer_with [] (rules.query_reply id q ds))
+        → where_ok (λ (rows : List Fields). map_ok (λ r. rules.answer_with [] (rules.query_reply id q r)) (or_code bad_request (through q.stages rows))) (or_code no_such_collection o) ≡ Ok (rules.answer_with [] (rules.query_reply id q ds))
     by_rows None f = absurd cc
     by_rows (Some rows) f = by_result (through q.stages rows) f
 
@@ -235,7 +235,7 @@ find_settles s given q found single size n batch d result' these at one sized nu
 pub find_refused : (s : State) (given : ℕ) (q : Query) (rows : List Fields) → read s q.source ≡ Some rows → through q.stages rows ≡ None → fitting (rules.answer s (pos (suc given)) (rules.find q)) ≡ refused bad_request
 find_refused s given q rows there none =
     let id : ℤ = pos (suc given) in
-    ap (λ (o : Option (List Fields)). fitting (and_then (λ (ds : List Fields). map_ok (λ r. rules.answer_with [] (rules.query_reply id q r)) (or_code bad_request (through q.stages ds))) (or_code no_such_collection o))) there
+    ap (λ (o : Option (List Fields)). fitting (where_ok (λ (ds : List Fields). map_ok (λ r. rules.answer_with [] (rules.query_reply id q r)) (or_code bad_request (through q.stages ds))) (or_code no_such_collection o))) there
     ∙ ap (λ (o : Option (List Fields)). fitting (map_ok (λ (r : List Fields). rules.answer_with [] (rules.query_reply id q r)) (or_code bad_request o))) none
 
 -- ---- kills
@@ -342,7 +342,7 @@ indexes_missing c s given sp size h none =
     let id : ℤ = pos (suc given) in
     let q : Query = query_by (of_indexes sp) false [] size in
     let missing : collection_in s.collections sp ≡ None = none_is (collection_in s.collections sp) (is_there c s given sp h ∙ none) in
-    ap (λ (o : Option state.Collection). fitting (and_then (λ (ds : List Fields). map_ok (λ r. rules.answer_with [] (rules.query_reply id q r)) (or_code bad_request (through [] ds))) (or_code no_such_collection (option_map (λ (c : state.Collection). map index_listed (id_index ∷ c.indexes)) o)))) missing
+    ap (λ (o : Option state.Collection). fitting (where_ok (λ (ds : List Fields). map_ok (λ r. rules.answer_with [] (rules.query_reply id q r)) (or_code bad_request (through [] ds))) (or_code no_such_collection (option_map (λ (c : state.Collection). map index_listed (id_index ∷ c.indexes)) o)))) missing
 
 -- ---- updates and deletes
 

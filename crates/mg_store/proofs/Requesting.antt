@@ -8,7 +8,7 @@ use Rattle.mg_server.specs.State.{Watch, State, Start, Index}
 use Rattle.mg_server.specs.Commands.{query_by, KeepsId}
 use Rattle.mg_server.specs.Query.{Query, Source, Stage, of_collection, of_indexes}
 use Rattle.mg_server.specs.Rules as rules
-use Rattle.mg_server.specs.Rules.{ended_before, map_ok, no_such_token, place_after, place_at, request_of, token_place, or_code}
+use Rattle.mg_server.specs.Rules.{map_ok, request_of}
 use Rattle.mg_query.specs.Asking.{Keyed, keyed}
 use Rattle.mg_query.specs.Querying.{Doing, doing}
 use Rattle.mg_query.specs.Wanted.{Wanted, StopsBy, create_collection, create_indexes, drop_collection, insert, kill, more, wanted, watch, find, update, delete}

@@ -15,7 +15,7 @@ use Rattle.mg_server.specs.Step.{documents_of, ends_cursor, cursors_refused}
 use Rattle.mg_server.specs.Query.{index_listed}
 use Rattle.mg_server.specs.Write.{with_indexes, after_delete, after_update, changing, chosen, modified}
 use Rattle.mg_server.specs.Rules as rules
-use Rattle.mg_server.specs.Rules.{Inserted, answer, answer_insert, answer_of, and_then, bad_request, batch_place, ends_watch, fitting, inserting, insert_request, kill_request, more_request, or_code, refusal, refused, request_of, size_of, unknown_command, watch_reply, may_stay, create_request, indexes_request, drop_request, list_collections_request, list_indexes_request, dropped_entries, batch_of_query, find_request, first_held, query_id, query_space, aggregate_request, update_request, delete_request, modified_entries, deleted_entries, events_may_be_given, updated_reply, deleted_reply}
+use Rattle.mg_server.specs.Rules.{Inserted, answer, answer_insert, answer_of, where_ok, bad_request, batch_place, ends_watch, fitting, inserting, insert_request, kill_request, more_request, or_code, refusal, refused, request_of, size_of, unknown_command, watch_reply, may_stay, create_request, indexes_request, drop_request, list_collections_request, list_indexes_request, dropped_entries, batch_of_query, find_request, first_held, query_id, query_space, aggregate_request, update_request, delete_request, modified_entries, deleted_entries, events_may_be_given, updated_reply, deleted_reply}
 use Rattle.mg_server.specs.Kept.{Kept, state_behind, given_after, IsStoreState}
 use Rattle.mg_server.proofs.Requests.{asked_is, asks_of}
 use Rattle.mg_server.proofs.Behind.{Parts, behind_insert, behind_kill, behind_more, behind_refusal, behind_watch, cursor_moved, cursors_opened, given_opened, behind_create, behind_indexes, behind_drop, behind_find, behind_query_more, cursors_found, given_found, rest_of, behind_update, behind_delete}
@@ -280,7 +280,7 @@ pub answers_settled : (s : State) (given : ℕ) (command : List ℕ) (r : rules.
 unfolding answer_of
 answers_settled s given command r a asks h =
     let known : answer_of s (pos (suc given)) (fields command) ≡ h.by_rules =
-    ap (λ (x : Result rules.Request ℤ). fitting (and_then (answer s (pos (suc given))) x)) asks ∙ ap fitting h.answers ∙ ap (λ (b : Bool). if b then h.by_rules else refused bad_request) h.written.fitting in
+    ap (λ (x : Result rules.Request ℤ). fitting (where_ok (answer s (pos (suc given))) x)) asks ∙ ap fitting h.answers ∙ ap (λ (b : Bool). if b then h.by_rules else refused bad_request) h.written.fitting in
     record {
       reply = record { encoded = h.written.these ∙ ap (λ (x : rules.Answer). bytes x.reply) (sym known); read_back = h.written.read_back ∙ ap (λ (x : rules.Answer). x.reply) (sym known) };
       leads = λ started kept is_command is_reply state lt.
@@ -356,12 +356,12 @@ unfolding answer_of
 answers_or s given command r (Ok a) asks h = answers_settled s given command r a asks h
 answers_or s given command r (Err stops.Memory) asks h = tt
 answers_or s given command r (Err (stops.Refused refusal)) asks h =
-    (ap (λ (x : Result rules.Request ℤ). fitting (and_then (answer s (pos (suc given))) x)) asks ∙ h.0, loses_none s command r refusal asks h.1)
+    (ap (λ (x : Result rules.Request ℤ). fitting (where_ok (answer s (pos (suc given))) x)) asks ∙ h.0, loses_none s command r refusal asks h.1)
 
 -- what is not read is refused
 pub answers_unread : (s : State) (given : ℕ) (command : List ℕ) (refusal : Refusal) → request_of (fields command) ≡ Err (refusal_code refusal) → AnswersOr s given command (Err (stops.Refused refusal))
 unfolding answer_of
-answers_unread s given command refusal asks = (ap (λ (x : Result rules.Request ℤ). fitting (and_then (answer s (pos (suc given))) x)) asks, loses_none_unread s command (refusal_code refusal) asks)
+answers_unread s given command refusal asks = (ap (λ (x : Result rules.Request ℤ). fitting (where_ok (answer s (pos (suc given))) x)) asks, loses_none_unread s command (refusal_code refusal) asks)
 
 -- a refusal by the rules
 pub answers_refused : (s : State) (given : ℕ) (command : List ℕ) (code : ℤ) (a : Answer) → answer_of s (pos (suc given)) (fields command) ≡ refused code → LosesNone s command code → Replies (refusal code []) effects.Nothing a → AnswersBy s given command a

@@ -1,6 +1,6 @@
 //! What an insert appends.
 ghost use Rattle.mg_store.specs.declared.insert.Rejected.TheVariants.{Memory};
-ghost use Rattle.std.specs.Prelude.{◌≡◌, ◌<◌, ◌≤◌, ◌+◌, ◌^◌, ◌++◌, List, [], suc, length, map, vec_len, vec_capacity, IfOk, OnOk, OnErr, codes};
+ghost use Rattle.std.specs.Prelude.{◌≡◌, ◌<◌, ◌≤◌, ◌+◌, ◌^◌, ◌++◌, List, [], suc, length, vec_len, vec_capacity, IfOk, OnOk, codes};
 ghost use Rattle.mg_bson.specs.Find.{get};
 ghost use Rattle.mg_bson.specs.Raw.{items};
 ghost use Rattle.mg_bson.specs.Tree.{Fields, no_items};

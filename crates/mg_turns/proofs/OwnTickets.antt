@@ -3,10 +3,11 @@ use Rattle.std.proofs.Common.{◌≡◌, ◌⊎◌, ◌+◌, ◌-◌, ◌^◌, �
 use Rattle.std.specs.Prelude.{is_some, IsSome, nat_eq, if◌then◌else◌}
 use Rattle.std.proofs.lemmas.Bool.{cases_eq, eq-eqb, ne_eqb}
 use Rattle.mg_link.specs.Acts.{IsOut}
+use Rattle.mg_link.specs.Causes.{one_if}
 use Rattle.mg_link.specs.Link.{Awaited, Ends, OneMore, OneMoreAt, Polls, SamePolls, Sees, Sends, Starts, LogTold, Waits}
 use Rattle.mg_link.specs.Log.{Sight, Call, waiting, fault, see}
 use Rattle.mg_link.proofs.Outs.{length-see}
-use Rattle.mg_turns.specs.Counts.{IsNewest, IsOwnTurn, NewestAt, sent_last, was_held, PolledBy, PolledNewest, StartedBy, is_held, one_if, shown}
+use Rattle.mg_turns.specs.Counts.{IsNewest, IsOwnTurn, NewestAt, sent_last, was_held, PolledBy, PolledNewest, StartedBy, is_held, shown}
 
 same_some : {A : Type 0} (x y : A) → Some x ≡ Some y → x ≡ y
 same_some x y h = cc

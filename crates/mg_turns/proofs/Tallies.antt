@@ -10,8 +10,8 @@ use Rattle.mg_link.specs.Log.{Sight, fault, Call, see}
 use Rattle.mg_link.proofs.Onward.{rose_on}
 use Rattle.mg_link.proofs.Outs.{length-see}
 use Rattle.mg_link.proofs.Places.{get_push}
-use Rattle.mg_link.specs.Causes.{RoseJust}
-use Rattle.mg_turns.specs.Counts.{AreNoted, Counted, Faultless, IsNoted, LosesNothing, RoseIf, StartedBy, one_if, turns_pended}
+use Rattle.mg_link.specs.Causes.{RoseJust, one_if}
+use Rattle.mg_turns.specs.Counts.{AreNoted, Counted, Faultless, IsNoted, LosesNothing, RoseIf, StartedBy, turns_pended}
 
 -- ---- what is lost
 

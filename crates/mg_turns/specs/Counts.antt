@@ -1,7 +1,7 @@
 -- What is counted of a turn.
 use Rattle.std.specs.Prelude.{◌≡◌, ◌+◌, ◌-◌, ◌^◌, ◌<◌, ◌≤◌, ℕ, zero, suc, Bool, true, false, nat_eq, Option, Some, None, is_some, IsSome, List, [], ◌∷◌, length, slice_get, if◌then◌else◌}
 use Rattle.mg_server.specs.Calls.{Stays}
-use Rattle.mg_link.specs.Causes.{RoseJust}
+use Rattle.mg_link.specs.Causes.{RoseJust, one_if}
 use Rattle.mg_link.specs.Link.{Awaited, OneMore, Polls, SamePolls, LogTold}
 use Rattle.mg_link.specs.Log.{fault, Call}
 use Rattle.mg_turns.specs.declared.turned.Turned.{Turned}
@@ -72,11 +72,6 @@ IsNewest held began from to place = (calls : List Call) → from ≡ Some calls 
 -- where a ticket is held, its call is the newest of the turn
 abbrev pub HoldsNewest : (held after : Option ℕ) → (began now : Awaited) → (from to : LogTold) → Type 0
 HoldsNewest held after began now from to = (n place : ℕ) → after ≡ Some n → now n ≡ Some place → IsNewest held began from to place
-
--- one where a turn pended
-abbrev pub one_if : Bool → ℕ
-one_if true = 1
-one_if false = 0
 
 -- so many polls pended, one behind the other, each of a call of which this holds
 abbrev pub PolledBy : ℕ → (ℕ → Type 0) → (before now : Polls) → Type 0

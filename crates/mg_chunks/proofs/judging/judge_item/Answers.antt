@@ -6,7 +6,7 @@ use Rattle.mg_bson.specs.Tree.{Items, item}
 use Rattle.mg_link.specs.declared.error.Error.{Error}
 use Rattle.mg_chunks.specs.Chunks.{all_judged, judged}
 use Rattle.mg_chunks.specs.Judging.{JudgesOne, TakesChunk}
-use Rattle.mg_chunks.specs.declared.judging.Place.{Place}
+use Rattle.mg_chunks.specs.declared.judging.ReadPlace.{ReadPlace}
 use Rattle.mg_chunks.proofs.Ordered.{bad_item, differing, judges_one}
 use Rattle.mg_chunks.proofs.judging.judge_item.Goals as goal
 
@@ -15,7 +15,7 @@ returns-in-Some-clause-ok c =
     let f = c.args.file.now in
     let t = value c.args.found.now in
     let d = fields c.in-Some.document in
-    IfOk-weaker c.judge_next.result (TakesChunk f c.args.place d) (JudgesOne f c.args.place t) (λ (p : Place). judges_one f c.args.place p t d (sym c.in-Some.ensures)) c.judge_next.ensures.ok
+    IfOk-weaker c.judge_next.result (TakesChunk f c.args.place d) (JudgesOne f c.args.place t) (λ (p : ReadPlace). judges_one f c.args.place p t d (sym c.in-Some.ensures)) c.judge_next.ensures.ok
 
 pub returns-in-Some-clause-err : goal.returns-in-Some-clause-err
 returns-in-Some-clause-err c =
