@@ -12,6 +12,8 @@ pub mod Sets
 pub mod Selecting
 pub mod Grouping
 pub mod Covering
+pub mod StableSorts
+pub mod Comparing
 pub mod Sorting
 pub mod Giving
 pub mod Staging

@@ -5,6 +5,7 @@ pub mod Numbering
 pub mod Collecting
 pub mod Modifying
 pub mod Querying
+pub mod Comparing
 pub mod Selecting
 pub mod Wanted
 pub mod Replies

@@ -1,6 +1,6 @@
 -- What a query does with documents, where filters are held by the encodings of their values.
 use Rattle.std.specs.declared.alloc.Global.{Global}
-use Rattle.std.specs.Prelude.{◌≡◌, ℕ, suc, Bool, true, false, List, [], ◌∷◌, ◌++◌, map, take, drop, Option, Some, None, option_map, option_and_then, Result, Ok, Err, codes, string_bytes, if◌then◌else◌, Vec}
+use Rattle.std.specs.Prelude.{◌≡◌, ℕ, Bool, true, false, List, [], ◌∷◌, ◌++◌, map, take, drop, Option, Some, None, option_map, option_and_then, Result, Ok, Err, codes, string_bytes, if◌then◌else◌, Vec}
 use Rattle.std.specs.List.{filter}
 use denote.Ref.{Bor}
 use Rattle.mg_bson.specs.Tree.{Tree, Fields, Items}
@@ -11,7 +11,7 @@ use Rattle.mg_link.specs.Numbers.{as_integer}
 use Rattle.mg_server.specs.Commands.{documents_in, pipeline_of, rising_by}
 use Rattle.mg_server.specs.Filter.{is_top_name}
 use Rattle.mg_server.specs.Query as query
-use Rattle.mg_server.specs.Query.{Key, can_sort, comes_first, id_alone, order_by, sorted}
+use Rattle.mg_server.specs.Query.{Key, can_sort, id_alone, sorted}
 use Rattle.mg_server.specs.Rules.{batch_of_query, documents_of_items}
 use Rattle.mg_query.specs.Asking.{Keyed, held, keyed, matches_keys}
 use Rattle.mg_query.specs.declared.batch.Batch.{Batch}
@@ -85,11 +85,6 @@ done hides_id ds = Some (map (without (codes "_id")) ds)
 abbrev pub all_done : List Doing → List Fields → Option (List Fields)
 all_done [] ds = Some ds
 all_done (x ∷ xs) ds = option_and_then (all_done xs) (done x ds)
-
--- how many of the documents, from the first on, come before this one
-abbrev pub before_it : List Key → Fields → List Fields → ℕ
-before_it keys d [] = 0
-before_it keys d (e ∷ es) = if comes_first (order_by keys e d) then suc (before_it keys d es) else 0
 
 -- the documents, or a refusal where there are none
 abbrev pub Results : Result (Vec (List ℕ) Global) Stop → Option (List Fields) → Type 0

@@ -1,7 +1,6 @@
 //! The documents of a collection that a filter is for.
 ghost use Rattle.std.specs.Prelude.{◌≡◌, ◌++◌, IfOk, IfSome, OnOk, map, true};
 ghost use Rattle.mg_bson.specs.Find.{get};
-ghost use Rattle.mg_bson.specs.Raw.{fields};
 ghost use Rattle.mg_bson.specs.Tree.{Fields};
 ghost use Rattle.mg_query.specs.Asking.{has_key, held, matches_keys};
 ghost use Rattle.mg_query.specs.Collecting.{Covers, looked_up};

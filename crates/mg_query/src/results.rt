@@ -7,18 +7,18 @@ ghost use Rattle.mg_bson.specs.RawView.{value};
 ghost use Rattle.mg_server.specs.Query.{id_alone};
 ghost use Rattle.mg_query.specs.Asking.{held, matches_keys};
 ghost use Rattle.mg_query.specs.Numbering.{KeepsIds, KeepsIdsThere, stored, there};
-ghost use Rattle.mg_query.specs.Querying.{Results, all_done, done, held_key, held_stage, sorts, lent};
+ghost use Rattle.mg_query.specs.Querying.{Results, all_done, done, held_stage, lent};
 ghost use Rattle.mg_query.specs.Selecting.{selecting};
 
 use crate::collection::Collection;
 use crate::copies::{copy, encoded, owned, tree_of};
 use crate::filter::Condition;
 use crate::lookup::chosen_in;
-use crate::refusal::{Refusal, Stop};
+use crate::refusal::Stop;
 use crate::reply::with;
 use crate::selection::Selection;
-use crate::sort::{can_sort, sorted};
-use crate::stages::{Key, Stage};
+use crate::sort::sorted;
+use crate::stages::Stage;
 use mg_bson::{Document, RawDocumentBuf, RawValue};
 use mg_link::OutOfMemory;
 use std::alloc::Global;
@@ -125,19 +125,6 @@ fn without_ids(
     Ok(shown)
 }
 
-fn ordered(
-    alloc: Global,
-    keys: &Vec<Key>,
-    documents: &[RawDocumentBuf],
-) -> Result<Vec<RawDocumentBuf>, Stop>
-    ensures { Results result (done (sorts (map held_key keys.now.items)) (map fields documents.now)) }
-{
-    if !can_sort(keys, documents) {
-        return Err(Stop::Refused(Refusal::BadRequest));
-    }
-    Ok(sorted(alloc, keys, documents)?)
-}
-
 /// What one stage makes of the documents.
 fn staged(
     alloc: Global,
@@ -148,7 +135,7 @@ fn staged(
 {
     match stage {
         Stage::Select(conditions) => Ok(selected(alloc, conditions, documents.as_slice())?),
-        Stage::Sort(keys) => ordered(alloc, keys, documents.as_slice()),
+        Stage::Sort(keys) => sorted(keys, documents),
         Stage::Skip(n) => Ok(behind(documents, *n)?),
         Stage::Limit(n) => Ok(front(documents, *n)),
         Stage::ShowId => Ok(with_ids_alone(alloc, documents.as_slice())?),
