@@ -5,6 +5,8 @@ pub mod Replying
 pub mod AskingMore
 pub mod Composing
 pub mod Sessions
+pub mod Lines
+pub mod Queries
 pub mod Failed
 pub mod InsertFailing
 pub mod Unread

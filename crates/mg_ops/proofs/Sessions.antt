@@ -2,7 +2,7 @@
 use Rattle.std.proofs.Common.{◌≡◌, ◌++◌, ℕ, ℤ, Bool, true, false, List, [], ◌∷◌, Option, Some, None, inl, inr, refl, ap, ◌∙◌, subst}
 use Rattle.std.specs.Prelude.{codes, ◌&&◌, ◌||◌, if◌then◌else◌}
 use Rattle.std.specs.Str.{bytes_eq}
-use Rattle.mg_bson.specs.Tree.{Tree, document, int64, boolean, Fields, no_fields, field}
+use Rattle.mg_bson.specs.Tree.{Tree, document, int64, boolean, Fields, field}
 use Rattle.mg_bson.specs.Find.{get, joined}
 use Rattle.mg_bson.proofs.Joining.{joined_all}
 use Rattle.mg_server.specs.Commands.{has_only, ignored, is_name_among}
@@ -79,35 +79,3 @@ pub line_past : (k l : List ℕ) (s : Shown) (ls : List Line) → bytes_eq l k �
 line_past k l absent ls other = refl
 line_past k l (shown t) ls other = ap (λ (b : Bool). if b then Some t else get k (fields_in ls)) other
 line_past k l (unfit a) ls other = refl
-
-session_past : (k : List ℕ) (s : Option Session) (ls : List Line) → bytes_eq (codes "lsid") k ≡ false → bytes_eq (codes "txnNumber") k ≡ false → bytes_eq (codes "startTransaction") k ≡ false → bytes_eq (codes "autocommit") k ≡ false
-    → get k (fields_in (session_lines s ++ ls)) ≡ get k (fields_in ls)
-session_past k None ls a b c d = refl
-session_past k (Some s) ls a b c d =
-    line_past k (codes "lsid") (shown (document s.id)) ("txnNumber" ⟼ numbered s ⨾ "startTransaction" ⟼ start_transaction s ⨾ "autocommit" ⟼ autocommit s ⨾ ls) a
-    ∙ line_past k (codes "txnNumber") (numbered s) ("startTransaction" ⟼ start_transaction s ⨾ "autocommit" ⟼ autocommit s ⨾ ls) b
-    ∙ line_past k (codes "startTransaction") (start_transaction s) ("autocommit" ⟼ autocommit s ⨾ ls) c
-    ∙ line_past k (codes "autocommit") (autocommit s) ls d
-
--- fields that a query is not read from
-pub record Unread (rest : Fields) : Type 0 where
-  pub filter : get (codes "filter") rest ≡ None
-  pub sort : get (codes "sort") rest ≡ None
-  pub skip : get (codes "skip") rest ≡ None
-  pub limit : get (codes "limit") rest ≡ None
-  pub projection : get (codes "projection") rest ≡ None
-  pub single : get (codes "singleBatch") rest ≡ None
-  pub size : get (codes "batchSize") rest ≡ None
-  pub cursor : get (codes "cursor") rest ≡ None
-
-pub session_unread : (s : Option Session) (ls : List Line) → fields_in ls ≡ no_fields → Unread (fields_in (session_lines s ++ ls))
-session_unread s ls none = record {
-  filter = session_past (codes "filter") s ls refl refl refl refl ∙ ap (get (codes "filter")) none;
-  sort = session_past (codes "sort") s ls refl refl refl refl ∙ ap (get (codes "sort")) none;
-  skip = session_past (codes "skip") s ls refl refl refl refl ∙ ap (get (codes "skip")) none;
-  limit = session_past (codes "limit") s ls refl refl refl refl ∙ ap (get (codes "limit")) none;
-  projection = session_past (codes "projection") s ls refl refl refl refl ∙ ap (get (codes "projection")) none;
-  single = session_past (codes "singleBatch") s ls refl refl refl refl ∙ ap (get (codes "singleBatch")) none;
-  size = session_past (codes "batchSize") s ls refl refl refl refl ∙ ap (get (codes "batchSize")) none;
-  cursor = session_past (codes "cursor") s ls refl refl refl refl ∙ ap (get (codes "cursor")) none;
-}

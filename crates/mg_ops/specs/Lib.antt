@@ -12,6 +12,7 @@ pub mod Sessions
 pub mod Bodies
 pub mod Entries
 pub mod Plain
+pub mod Queries
 pub mod Updates
 pub mod Drawn
 pub mod Inserts

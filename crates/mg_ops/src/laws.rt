@@ -1,12 +1,12 @@
 //! What the commands of operations ask a server for, whatever their session, and what it tells by their replies, for the
 //! proofs of callers.
-ghost use Rattle.std.specs.Prelude.{◌≡◌, ℕ, ℤ, pos, false, Bool, List, [], ◌∷◌, Option, Some, None, Ok};
+ghost use Rattle.std.specs.Prelude.{◌≡◌, ℕ, ℤ, pos, Bool, List, [], ◌∷◌, Option, Some, None, Ok};
 ghost use Rattle.mg_bson.specs.Tree.{Tree, Fields};
 ghost use Rattle.mg_bson.specs.Raw.{fields};
 ghost use Rattle.mg_link.specs.Namespace.{as_database, Space, Target, collection};
 ghost use Rattle.mg_server.specs.Commands.{asked, asks_create, asks_delete, asks_drop, asks_indexes, asks_insert, asks_kill, asks_more, asks_query, asks_update, deleted, documents_in, done, gave, inserted, modification_of, opened, pipeline_of, time_in, told, updated};
 ghost use Rattle.mg_server.specs.Filter.{Condition, conditions_of};
-ghost use Rattle.mg_server.specs.Query.{Query, Stage, of_collection, of_database, of_indexes, selects};
+ghost use Rattle.mg_server.specs.Query.{Query, Stage};
 ghost use Rattle.mg_link.specs.Reply.{verdict_of};
 ghost use Rattle.mg_link.specs.Session.{Session};
 ghost use Rattle.mg_server.specs.State.{Index};
@@ -14,8 +14,12 @@ ghost use Rattle.mg_server.specs.Write.{Modification};
 ghost use Rattle.mg_link.specs.declared.concern.WriteConcern.{WriteConcern};
 ghost use Rattle.mg_link.specs.declared.reply.Verdict.TheVariants as verdict;
 ghost use Rattle.mg_options.specs.Conversions.{aggregate_of_watch};
+ghost use Rattle.mg_options.specs.declared.aggregate.AggregateOptions.{AggregateOptions};
 ghost use Rattle.mg_options.specs.declared.change_stream.ChangeStreamOptions.{ChangeStreamOptions};
-ghost use Rattle.mg_options.specs.Fields.{fields_in};
+ghost use Rattle.mg_options.specs.declared.collections.ListCollectionsOptions.{ListCollectionsOptions};
+ghost use Rattle.mg_options.specs.declared.collections.ListIndexesOptions.{ListIndexesOptions};
+ghost use Rattle.mg_options.specs.declared.find.FindOptions.{FindOptions};
+ghost use Rattle.mg_options.specs.Fields.{fields_in, first_unfit};
 ghost use Rattle.mg_options.specs.declared.write_words.UpdateModifications.TheVariants as modifications;
 ghost use Rattle.mg_options.specs.declared.writes.InsertManyOptions.{InsertManyOptions};
 ghost use Rattle.mg_ops.specs.Aims.{aim_of, asked_for};
@@ -24,7 +28,8 @@ ghost use Rattle.mg_ops.specs.Commands.{kill_command, more_command, watch_stage}
 ghost use Rattle.mg_ops.specs.Cursors.{Cursor, cursor_of};
 ghost use Rattle.mg_ops.specs.Naming.{IsNamed};
 ghost use Rattle.mg_ops.specs.Pieces.{keys_onto};
-ghost use Rattle.mg_ops.specs.Plain.{plain_aggregate, plain_collections, plain_delete, plain_find, plain_index, plain_indexes};
+ghost use Rattle.mg_ops.specs.Plain.{plain_delete, plain_index};
+ghost use Rattle.mg_ops.specs.Queries.{IsAskable, aggregate_asked, askable_aggregate, asked_query, collections_asked, find_asked, indexes_asked};
 ghost use Rattle.mg_ops.specs.Sessions.{in_session};
 ghost use Rattle.mg_ops.specs.Writes.{Inserted, Wrote, count_of, counts_of, failures_of};
 
@@ -92,30 +97,34 @@ pub fn asks_to_index()
         → fields command ≡ fields_in (create_indexes_body space keys (plain_index writes) session) → asked command ≡ asks_indexes space (record { name = name; key = keys } ∷ []) }
 {}
 
-/// A find asks for the documents that meet its conditions.
+/// A find asks for the documents that meet its filter, sorted, without those that are passed over, no more than its limit and shown
+/// as its projection says, in batches of its size, or in one; for nothing where no server may take its filter, sort or projection.
 pub fn asks_to_find()
-    ensures { (command : List ℕ) (space : Space) (filter : Fields) (conditions : List Condition) (session : Option Session)
-        → IsNamed space → conditions_of filter ≡ Some conditions
-        → fields command ≡ fields_in (find_body space filter plain_find session) → asked command ≡ asks_query (record { source = of_collection space; stages = selects conditions ∷ []; single = false; size = None }) }
+    ensures { (command : List ℕ) (space : Space) (filter : Fields) (o : FindOptions) (session : Option Session)
+        → IsNamed space → IsAskable o → first_unfit (find_body space filter o None) ≡ None
+        → fields command ≡ fields_in (find_body space filter o session) → asked command ≡ asked_query (find_asked space filter o) }
 {}
 
-/// An aggregate whose stages a store takes asks for what they make of the documents of its collection.
+/// An aggregate whose stages a store takes asks for what they make of the documents of its collection, in batches of its size.
 pub fn asks_to_aggregate()
-    ensures { (command : List ℕ) (space : Space) (pipeline : List Fields) (stages : List Stage) (session : Option Session)
-        → IsNamed space → pipeline_of pipeline ≡ Some stages
-        → fields command ≡ fields_in (aggregate_body (collection space) pipeline plain_aggregate session) → asked command ≡ asks_query (record { source = of_collection space; stages = stages; single = false; size = None }) }
+    ensures { (command : List ℕ) (space : Space) (pipeline : List Fields) (stages : List Stage) (o : AggregateOptions) (session : Option Session)
+        → IsNamed space → o ≡ askable_aggregate o → first_unfit (aggregate_body (collection space) pipeline o None) ≡ None → pipeline_of pipeline ≡ Some stages
+        → fields command ≡ fields_in (aggregate_body (collection space) pipeline o session) → asked command ≡ asks_query (aggregate_asked space stages o) }
 {}
 
-/// A listCollections asks for the collections of its database.
+/// A listCollections asks for the collections of its database that meet its filter, in batches of its size; for nothing where no
+/// server may take its filter.
 pub fn asks_for_collections()
-    ensures { (command db : List ℕ) (name_only : Bool) (session : Option Session) → as_database db ≡ Some db
-        → fields command ≡ fields_in (list_collections_body db name_only plain_collections session) → asked command ≡ asks_query (record { source = of_database db; stages = []; single = false; size = None }) }
+    ensures { (command db : List ℕ) (name_only : Bool) (o : ListCollectionsOptions) (session : Option Session)
+        → as_database db ≡ Some db → first_unfit (list_collections_body db name_only o None) ≡ None
+        → fields command ≡ fields_in (list_collections_body db name_only o session) → asked command ≡ asked_query (collections_asked db o) }
 {}
 
-/// A listIndexes asks for the indexes of its collection.
+/// A listIndexes asks for the indexes of its collection, in batches of its size.
 pub fn asks_for_indexes()
-    ensures { (command : List ℕ) (space : Space) (session : Option Session) → IsNamed space
-        → fields command ≡ fields_in (list_indexes_body space plain_indexes session) → asked command ≡ asks_query (record { source = of_indexes space; stages = []; single = false; size = None }) }
+    ensures { (command : List ℕ) (space : Space) (o : ListIndexesOptions) (session : Option Session)
+        → IsNamed space → first_unfit (list_indexes_body space o None) ≡ None
+        → fields command ≡ fields_in (list_indexes_body space o session) → asked command ≡ asks_query (indexes_asked space o) }
 {}
 
 /// What a reply to a getMore tells: the cursor, the documents of its batch, and the token.

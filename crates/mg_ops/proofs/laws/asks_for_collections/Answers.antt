@@ -1,5 +1,5 @@
-use Rattle.mg_ops.proofs.AskingMore.{asks_for_collections}
+use Rattle.mg_ops.proofs.Queries.{collections_ask}
 use Rattle.mg_ops.proofs.laws.asks_for_collections.Goals as goal
 
 pub returns : goal.returns
-returns c = asks_for_collections
+returns c = collections_ask

@@ -1,5 +1,5 @@
-use Rattle.mg_ops.proofs.AskingMore.{asks_for_indexes}
+use Rattle.mg_ops.proofs.Queries.{indexes_ask}
 use Rattle.mg_ops.proofs.laws.asks_for_indexes.Goals as goal
 
 pub returns : goal.returns
-returns c = asks_for_indexes
+returns c = indexes_ask

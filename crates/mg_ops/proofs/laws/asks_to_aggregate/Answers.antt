@@ -1,5 +1,5 @@
-use Rattle.mg_ops.proofs.AskingMore.{asks_to_aggregate}
+use Rattle.mg_ops.proofs.Queries.{aggregate_asks}
 use Rattle.mg_ops.proofs.laws.asks_to_aggregate.Goals as goal
 
 pub returns : goal.returns
-returns c = asks_to_aggregate
+returns c = aggregate_asks
