@@ -1,6 +1,7 @@
 -- The steps of a call, one behind another, and how a call leaves its stream.
 use Rattle.std.proofs.Common.{◌≡◌, ◌+◌, ◌++◌, ℕ, zero, suc, ℤ, pos, Bool, true, false, List, [], Option, Some, None, refl, sym, ap, ◌∙◌, subst, inl, inr, arith, option_map}
 use Rattle.mg_bson.specs.Tree.{Fields}
+use Rattle.mg_link.specs.Causes.{one_if}
 use Rattle.mg_link.specs.Exec.{Sending}
 use Rattle.mg_server.specs.Follow.{Moved}
 use Rattle.mg_link.specs.Link.{Awaited, LogTold}
@@ -17,7 +18,7 @@ use Rattle.mg_cursor.specs.Client.{ClientCursor, IsOver, PlainIf, at_rest, rests
 use Rattle.mg_cursor.specs.Client as cursors
 use Rattle.mg_cursor.specs.Closing.{ClosingCursor, IsNotAsking}
 use Rattle.mg_cursor.specs.Polling.{Hears}
-use Rattle.mg_cursor.specs.Seeking.{one_if, session_after, times}
+use Rattle.mg_cursor.specs.Seeking.{session_after, times}
 use Rattle.mg_cursor.specs.declared.polls.NextPoll.{NextPoll}
 use Rattle.mg_cursor.specs.declared.polls.NextPoll.TheVariants as next
 use Rattle.mg_cursor.specs.declared.polls.TryPoll.{TryPoll}

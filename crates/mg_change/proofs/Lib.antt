@@ -31,3 +31,6 @@ pub mod Awaiting
 pub mod Lasting
 pub mod OpenSends
 pub mod OpenCalls
+pub mod Grown
+pub mod Calling
+pub mod CallSends

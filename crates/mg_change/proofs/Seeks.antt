@@ -1,9 +1,10 @@
 -- Where a call that seeks an event goes on behind a step, and where it ends.
 use Rattle.std.proofs.Common.{◌≡◌, ◌⊎◌, ◌<◌, ◌≤◌, ◌+◌, ◌*◌, ◌-◌, ℕ, ℤ, pos, Bool, true, false, Option, refl, sym, ap, ◌∙◌, subst, inl, inr, arith}
+use Rattle.mg_link.specs.Causes.{one_if}
 use Rattle.mg_link.specs.Link.{Awaited, LogTold}
 use Rattle.mg_link.specs.Moment.{LinkKeeps, Moment, finished}
 use Rattle.mg_link.specs.Session.{Session}
-use Rattle.mg_cursor.specs.Seeking.{one_if, session_after}
+use Rattle.mg_cursor.specs.Seeking.{session_after}
 use Rattle.mg_cursor.specs.declared.polls.TryPoll.{TryPoll}
 use Rattle.mg_cursor.specs.declared.polls.TryPoll.TheVariants as try
 use Rattle.mg_cursor.specs.declared.results.AdvanceResult.TheVariants as result

@@ -3,6 +3,7 @@ use Rattle.std.proofs.Common.{◌≡◌, ℕ, ℤ, Bool, true, false, List, Opti
 use Rattle.std.specs.Prelude.{IfErr, IfOk, OnErr}
 use Rattle.mg_bson.specs.Raw.{fields}
 use Rattle.mg_link.specs.Acts.{IsOut, ticket_after}
+use Rattle.mg_link.specs.Causes.{one_if}
 use Rattle.mg_link.specs.Exec.{Sending, ticket_at, ticket_of}
 use Rattle.mg_link.specs.Link.{Awaited, LogTold}
 use Rattle.mg_link.specs.Moment.{LinkKeeps, Moment, finished, step_ending}
@@ -16,7 +17,7 @@ use Rattle.mg_ops.specs.Failing.{FailsBy}
 use Rattle.mg_ops.specs.declared.aggregate.ChangeStreamAggregate.{ChangeStreamAggregate}
 use Rattle.mg_ops.specs.declared.change_stream.ChangeStreamData.{ChangeStreamData}
 use Rattle.mg_ops.specs.declared.change_stream.WatchArgs.{WatchArgs}
-use Rattle.mg_cursor.specs.Seeking.{one_if, session_moved, times}
+use Rattle.mg_cursor.specs.Seeking.{session_moved, times}
 use Rattle.mg_cursor.proofs.Hearing.{failing, no_room, other_kind, unread_not_io, unsent_not_io}
 use Rattle.mg_change.specs.ClientOpenings.{ClientOpening, HearsOpening, IsNextSent, KeepsOpening, OpensStream, ReadsOpening, RunsOpening, begins, broke, first_aggregate, goes_on, opened, opening_ticket, seen_step, sending_ticket}
 use Rattle.mg_change.specs.ClientStreams.{ClientStream, IsNewAggregate, resuming_in}

@@ -15,3 +15,4 @@ pub mod SeekCauses
 pub mod ClosingCauses
 pub mod Growths
 pub mod OpenedStreams
+pub mod Calling

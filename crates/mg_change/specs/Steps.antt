@@ -2,6 +2,7 @@
 use Rattle.std.specs.Prelude.{◌≡◌, ◌≢◌, ◌⊎◌, ◌+◌, ℕ, zero, suc, ℤ, Bool, true, false, List, [], ◌∷◌, Option, Some}
 use Rattle.mg_bson.specs.Raw.{fields}
 use Rattle.mg_bson.specs.declared.tree.Timestamp.{Timestamp}
+use Rattle.mg_link.specs.Causes.{one_if}
 use Rattle.mg_link.specs.Exec.{RunsStarting, Sending}
 use Rattle.mg_link.specs.Link.{Awaited, SendsNothing, LogTold}
 use Rattle.mg_link.specs.Resumable.{is_resumable}
@@ -23,7 +24,7 @@ use Rattle.mg_cursor.specs.Batches.{BreaksBatch, documents_of}
 use Rattle.mg_cursor.specs.Client.{ClientCursor, IsNew, IsOver, MayAsk, asking_by, asks, at_rest, get_more, holds, new_client, rests}
 use Rattle.mg_cursor.specs.Closing.{ClosingCursor, ClosingPolls, closed}
 use Rattle.mg_cursor.specs.Polling.{CannotAsk, RunsMore}
-use Rattle.mg_cursor.specs.Seeking.{one_if, session_after}
+use Rattle.mg_cursor.specs.Seeking.{session_after}
 use Rattle.mg_cursor.specs.declared.polls.NextPoll.{NextPoll}
 use Rattle.mg_cursor.specs.declared.polls.NextPoll.TheVariants as next
 use Rattle.mg_cursor.specs.declared.polls.TryPoll.TheVariants as try

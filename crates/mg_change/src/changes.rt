@@ -2,6 +2,7 @@
 ghost use Rattle.std.specs.Prelude.{◌≡◌, ◌↔◌, ◌++◌, ℕ, Bool, IsTrue, IfErr, OnErr, OnOk, None, false, List, Option, []};
 ghost use Rattle.mg_bson.specs.Tree.{Fields};
 ghost use Rattle.mg_link.specs.Acts.{IsOut};
+ghost use Rattle.mg_link.specs.Causes.{one_if};
 ghost use Rattle.mg_link.specs.Errors.{plain};
 ghost use Rattle.mg_server.specs.Follow.{Moved};
 ghost use Rattle.mg_link.specs.Moment.{LinkKeeps, moment};
@@ -9,7 +10,7 @@ ghost use Rattle.mg_server.specs.State.{Start, Watch};
 ghost use Rattle.mg_ops.specs.Failing.{FailsBy};
 ghost use Rattle.mg_cursor.specs.Client.{MayAsk, PlainIf, rests};
 ghost use Rattle.mg_cursor.specs.Polling.{CannotAsk};
-ghost use Rattle.mg_cursor.specs.Seeking.{one_if, times};
+ghost use Rattle.mg_cursor.specs.Seeking.{times};
 ghost use Rattle.mg_cursor.specs.View.{client_of, current_of};
 ghost use Rattle.mg_change.specs.ClientStreams.{Asks, IsAlive, IsOwed, follows, is_renewed, lends_nothing, new_stream, stream_ticket, stream_token, token_known};
 ghost use Rattle.mg_change.specs.ClosingStreams.{closed_stream};

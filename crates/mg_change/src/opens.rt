@@ -1,6 +1,7 @@
 //! The opening of a change stream, one machine for all openings.
 ghost use Rattle.std.specs.Prelude.{◌≡◌, Bool, IfErr, IfOk, None, OnErr, false, if◌then◌else◌, is_some, option_copied};
 ghost use Rattle.mg_link.specs.Acts.{IsOut, ticket_after};
+ghost use Rattle.mg_link.specs.Causes.{one_if};
 ghost use Rattle.mg_link.specs.Errors.{plain};
 ghost use Rattle.mg_link.specs.Exec.{ticket_of};
 ghost use Rattle.mg_link.specs.Moment.{LinkKeeps, moment, step_ending};
@@ -11,7 +12,7 @@ ghost use Rattle.mg_ops.specs.Cursors.{BreaksIn};
 ghost use Rattle.mg_ops.specs.Failing.{FailsBy};
 ghost use Rattle.mg_ops.specs.Resuming.{saved_time};
 ghost use Rattle.mg_cursor.specs.Client.{PlainIf};
-ghost use Rattle.mg_cursor.specs.Seeking.{one_if, times};
+ghost use Rattle.mg_cursor.specs.Seeking.{times};
 ghost use Rattle.mg_change.specs.ClientOpenings.{HearsOpening, IsNextSent, KeepsOpening, OpensStream, ReadsOpening, RunsOpening, opening_ticket, seen_step};
 ghost use Rattle.mg_change.specs.OpeningView.{IsOpens, opens_of};
 ghost use Rattle.mg_change.specs.Steps.{CannotResume};

@@ -1,11 +1,12 @@
 //! The resumption of a stream, behind its token.
 ghost use Rattle.std.specs.Prelude.{◌≡◌, ℕ, Bool, List, None, true, []};
 ghost use Rattle.mg_link.specs.Acts.{IsOut};
+ghost use Rattle.mg_link.specs.Causes.{one_if};
 ghost use Rattle.mg_link.specs.Exec.{ticket_of};
 ghost use Rattle.mg_link.specs.Moment.{LinkKeeps, moment};
 ghost use Rattle.mg_cursor.specs.Client.{at_rest, holds, rests};
 ghost use Rattle.mg_cursor.specs.Closing.{IsNotAsking, closing_ticket};
-ghost use Rattle.mg_cursor.specs.Seeking.{one_if, times};
+ghost use Rattle.mg_cursor.specs.Seeking.{times};
 ghost use Rattle.mg_cursor.specs.View.{client_of};
 ghost use Rattle.mg_change.specs.ClientStreams.{IsHolding, owes, renewed, stream_ticket};
 ghost use Rattle.mg_change.specs.Steps.{ClosesOne, DoesStep, HearsClosing, HearsResumption, Leads, LooksAt, ReadsResumption, RunsResumption, replaced_by};

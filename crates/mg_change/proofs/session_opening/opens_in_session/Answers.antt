@@ -1,7 +1,7 @@
 use Rattle.std.proofs.Common.{false, refl, ◌∙◌}
+use Rattle.mg_link.specs.Causes.{one_if}
 use Rattle.mg_link.specs.Session.{after_command}
 use Rattle.mg_link.specs.declared.session.ExplicitClientSessionHandle.{ExplicitClientSessionHandle}
-use Rattle.mg_cursor.specs.Seeking.{one_if}
 use Rattle.mg_cursor.proofs.Giving.{session_kept, session_told}
 use Rattle.mg_change.proofs.Seen.{moved_once}
 use Rattle.mg_change.proofs.session_opening.opens_in_session.Goals as goal

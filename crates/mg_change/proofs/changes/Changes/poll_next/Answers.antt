@@ -1,8 +1,9 @@
 use Rattle.std.proofs.Common.{◌≡◌, ◌+◌, ℤ, Bool, false, refl, sym, ap, ◌∙◌, subst}
+use Rattle.mg_link.specs.Causes.{one_if}
 use Rattle.mg_link.specs.Moment.{finished, moment}
 use Rattle.mg_link.proofs.Moments.{keeps_on, keeps_same}
 use Rattle.mg_cursor.specs.Client.{rests}
-use Rattle.mg_cursor.specs.Seeking.{one_if, times}
+use Rattle.mg_cursor.specs.Seeking.{times}
 use Rattle.mg_cursor.proofs.Sought.{asked_on, times_on}
 use Rattle.mg_change.specs.ClientStreams.{ClientStream, is_renewed, lends_nothing, stream_ticket}
 use Rattle.mg_change.specs.Steps.{DoesStep}

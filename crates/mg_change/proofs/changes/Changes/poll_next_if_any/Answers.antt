@@ -1,7 +1,8 @@
 use Rattle.std.proofs.Common.{◌≡◌, ◌+◌, ℤ, false, refl, sym, ap, ◌∙◌, subst}
+use Rattle.mg_link.specs.Causes.{one_if}
 use Rattle.mg_link.specs.Moment.{finished, moment}
 use Rattle.mg_link.proofs.Moments.{keeps_on, keeps_same}
-use Rattle.mg_cursor.specs.Seeking.{one_if, times}
+use Rattle.mg_cursor.specs.Seeking.{times}
 use Rattle.mg_cursor.proofs.Sought.{asked_on, times_on}
 use Rattle.mg_change.specs.ClientStreams.{is_renewed, lends_nothing, stream_ticket}
 use Rattle.mg_change.specs.Steps.{DoesStep}

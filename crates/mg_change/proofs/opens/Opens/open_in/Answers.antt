@@ -1,9 +1,10 @@
 use Rattle.std.proofs.Common.{◌≡◌, ◌+◌, ◌-◌, false, max, None, Some, refl, sym, ap, ◌∙◌, subst, inl, inr, arith}
 use Rattle.mg_link.specs.Acts.{Tickets}
+use Rattle.mg_link.specs.Causes.{one_if}
 use Rattle.mg_link.specs.Moment.{moment}
 use Rattle.mg_link.specs.declared.action.Step.TheVariants as step
 use Rattle.mg_link.proofs.Onward.{later_on, later_same, tickets_on, tickets_same}
-use Rattle.mg_cursor.specs.Seeking.{one_if, times}
+use Rattle.mg_cursor.specs.Seeking.{times}
 use Rattle.mg_cursor.proofs.Sought.{times_on}
 use Rattle.mg_change.specs.ClientOpenings.{ClientOpening, opening_ticket}
 use Rattle.mg_change.specs.OpeningView.{opens_of}
