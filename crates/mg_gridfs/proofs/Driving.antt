@@ -146,10 +146,10 @@ writing_by (write piece) p closes aborts h = (piece, refl)
 writing_by close p closes aborts h = absurd (closes h)
 writing_by abort p closes aborts h = absurd (aborts h)
 
-closing_by : (call : uploads.Call) (p : Phase) → ((piece : ℕ) → IsOfCall (write piece) p → ⊥) → (IsOfCall abort p → ⊥) → IsOfCall call p → call ≡ close
-closing_by (write piece) p writes aborts h = absurd (writes piece h)
-closing_by close p writes aborts h = refl
-closing_by abort p writes aborts h = absurd (aborts h)
+call_is_close : (call : uploads.Call) (p : Phase) → ((piece : ℕ) → IsOfCall (write piece) p → ⊥) → (IsOfCall abort p → ⊥) → IsOfCall call p → call ≡ close
+call_is_close (write piece) p writes aborts h = absurd (writes piece h)
+call_is_close close p writes aborts h = refl
+call_is_close abort p writes aborts h = absurd (aborts h)
 
 lands_to : (call : uploads.Call) (flight other : Flight) (error : Option Error) → IsOfCall call (lands flight error) → IsOfCall call (lands other error) × IsOfCall call (undoes error)
 lands_to (write piece) flight other error h = absurd h
@@ -241,10 +241,10 @@ call_kept call old new log log' wire ids drawn u u' p r h (checks_on c is n t ch
 call_kept call old new log log' wire ids drawn u u' p r h (is_short is quiet n short at answer) = stepped_as call u' r done answer (done_of call u' (subst IsShort (sym at) short))
 call_kept call old new log log' wire ids drawn u u' p r h (fills_next is quiet full does) = fills_call call u u' r (writing_by call fills (λ x. x) (λ x. x) (subst (IsOfCall call) is h)) ids drawn does
 call_kept call old new log log' wire ids drawn u u' p r h (inserts_on s count is n c runs hears) = inserts_call call u u' r (writing_by call (inserts s count) (λ x. x) (λ x. x) (subst (IsOfCall call) is h)) count c hears
-call_kept call old new log log' wire ids drawn u u' p r h (rests_next moment is quiet does) = rests_call call u u' r (closing_by call (rests moment) (λ piece x. x) (λ x. x) (subst (IsOfCall call) is h)) ids drawn moment does
-call_kept call old new log log' wire ids drawn u u' p r h (inserts_last s ending is n c runs hears) = last_call call u u' r (closing_by call (lasts s ending) (λ piece x. x) (λ x. x) (subst (IsOfCall call) is h)) ending c hears
-call_kept call old new log log' wire ids drawn u u' p r h (ends_next ending is quiet n does) = ends_call call u u' r (closing_by call (ends ending) (λ piece x. x) (λ x. x) (subst (IsOfCall call) is h)) ending does
-call_kept call old new log log' wire ids drawn u u' p r h (records_on s ending is n c runs hears) = record_call call u u' r (closing_by call (records s ending) (λ piece x. x) (λ x. x) (subst (IsOfCall call) is h)) ending c hears
+call_kept call old new log log' wire ids drawn u u' p r h (rests_next moment is quiet does) = rests_call call u u' r (call_is_close call (rests moment) (λ piece x. x) (λ x. x) (subst (IsOfCall call) is h)) ids drawn moment does
+call_kept call old new log log' wire ids drawn u u' p r h (inserts_last s ending is n c runs hears) = last_call call u u' r (call_is_close call (lasts s ending) (λ piece x. x) (λ x. x) (subst (IsOfCall call) is h)) ending c hears
+call_kept call old new log log' wire ids drawn u u' p r h (ends_next ending is quiet n does) = ends_call call u u' r (call_is_close call (ends ending) (λ piece x. x) (λ x. x) (subst (IsOfCall call) is h)) ending does
+call_kept call old new log log' wire ids drawn u u' p r h (records_on s ending is n c runs hears) = record_call call u u' r (call_is_close call (records s ending) (λ piece x. x) (λ x. x) (subst (IsOfCall call) is h)) ending c hears
 call_kept call old new log log' wire ids drawn u u' p r h (lands_on flight error is n left landing landed) = landed_call call u u' r flight error left (subst (IsOfCall call) is h) landed
 call_kept call old new log log' wire ids drawn u u' p r h (undoes_next error is quiet n does) = removes_call call u u' r error (subst (IsOfCall call) is h) does
 call_kept call old new log log' wire ids drawn u u' p r h (removes_on s error is n c runs hears) = removal_call call u u' r s error c (subst (IsOfCall call) is h) hears

@@ -1,9 +1,9 @@
 -- What an opening of a download knows is known behind each of its polls.
-use Rattle.std.proofs.Common.{◌≡◌, ◌⊎◌, ◌<◌, ◌≤◌, ℕ, zero, suc, ℤ, List, [], ◌∷◌, length, Option, Some, None, Ok, option_map, refl, sym, ap, ap₂, ◌∙◌, subst, inl, inr, arith}
+use Rattle.std.proofs.Common.{◌≡◌, ◌⊎◌, ◌<◌, ◌≤◌, ℕ, zero, suc, ℤ, List, [], ◌∷◌, length, Option, Some, None, Ok, option_map, refl, sym, ap, ◌∙◌, subst, inl, inr, arith}
 use Rattle.std.specs.Prelude.{negsuc, option_and_then, unwrap_or}
 use Rattle.mg_bson.specs.Raw.{fields}
 use Rattle.mg_bson.specs.Tree.{Fields, Items, Tree}
-use Rattle.mg_server.specs.Commands.{Asked, Batch, asked, asked_by, asks_other, asks_query, batch_of, documents_in, find_of, garbled, opened_by, space_at, time_in, told, told_by}
+use Rattle.mg_server.specs.Commands.{Batch, asked, asks_query, batch_of, documents_in, garbled, opened_by, time_in, told, told_by}
 use Rattle.mg_link.specs.Exec.{IsSuccess, Runs, Sending, Stage, first, second, unsent}
 use Rattle.mg_server.specs.Files.{Bucket, chunks_space, files_space}
 use Rattle.mg_server.specs.Follow.{Reads}
@@ -21,12 +21,12 @@ use Rattle.mg_server.proofs.Finds as link_finds
 use Rattle.mg_server.proofs.Finds.{CameKnown, IsAtOwn, query_ran}
 use Rattle.mg_server.proofs.Owners.{same_some}
 use Rattle.mg_link.proofs.Places.{get_some, get_within}
-use Rattle.mg_options.specs.Fields.{fields_in}
-use Rattle.mg_ops.specs.Bodies.{find_body}
+use Rattle.mg_options.specs.Fields.{◌⟼◌⨾◌, fields_in, first_unfit, nothing}
+use Rattle.mg_options.specs.Shown.{read_concern, selection}
+use Rattle.mg_options.proofs.Fitting.{none_unfit, read_concern_fit, selection_fit}
 use Rattle.mg_ops.specs.Cursors.{Cursor, OpensWith, cursor_of}
-use Rattle.mg_ops.specs.Naming.{IsNamed}
 use Rattle.mg_ops.specs.declared.cursor_reply.CursorSpecification.{CursorSpecification}
-use Rattle.mg_ops.specs.Plain.{plain_find}
+use Rattle.mg_ops.proofs.Queries.{find_asks}
 use Rattle.mg_ops.proofs.Reading.{batch_as, batch_read, named_read}
 use Rattle.mg_cursor.specs.Client.{new_client}
 use Rattle.mg_cursor.specs.Reading.{batch_documents}
@@ -34,8 +34,8 @@ use Rattle.mg_cursor.proofs.Batching.{documents_read}
 use Rattle.mg_records.specs.FileRecords.{FileRecord}
 use Rattle.mg_gridfs.specs.Buckets.{ClientBucket}
 use Rattle.mg_chunks.specs.Filters.{of_file}
-use Rattle.mg_gridfs.specs.Commands.{by_id, found_lines, in_order, listed_lines}
-use Rattle.mg_gridfs.specs.Downloaded.{AfterOpening, IsPlainAt, KnowsChunks, KnowsDownload, KnowsOpening, KnowsRecord, LookingKnown, OpeningKnows, StandsBehind, chunks_query, cursor_owner, looking_owner, opened_owner, record_query}
+use Rattle.mg_gridfs.specs.Commands.{by_id, found_lines, in_order, listed_lines, reading_options}
+use Rattle.mg_gridfs.specs.Downloaded.{AfterOpening, IsNamedAt, KnowsChunks, KnowsDownload, KnowsOpening, KnowsRecord, LookingKnown, OpeningKnows, StandsBehind, chunks_query, cursor_owner, looking_owner, opened_owner, record_query}
 use Rattle.mg_chunks.specs.Broken.{broken}
 use Rattle.mg_gridfs.specs.Downloads.{empty_download, new_download}
 use Rattle.mg_gridfs.specs.Findings as finding
@@ -45,34 +45,20 @@ use Rattle.mg_gridfs.proofs.Given.{record_later}
 
 -- ---- what the commands ask for
 
-as_query : (command : List ℕ) (fs : Fields) (q : Query) → fields command ≡ fs → asked_by fs ≡ Some (asks_query q) → asked command ≡ asks_query q
-unfolding asked
-as_query command fs q is asks = ap (λ (x : Fields). unwrap_or (asked_by x) asks_other) is ∙ ap (λ (o : Option Asked). unwrap_or o asks_other) asks
+-- what is read, and who may be asked, are in their ranges, whatever they are
+reads_fit : (b : ClientBucket) → first_unfit ("readConcern" ⟼ read_concern b.reads ⨾ "$readPreference" ⟼ selection b.asks ⨾ nothing) ≡ None
+reads_fit b = none_unfit ("readConcern" ⟼ read_concern b.reads ⨾ "$readPreference" ⟼ selection b.asks ⨾ nothing) (read_concern_fit b.reads, (selection_fit b.asks, tt))
 
-found_by : (space : Space) (id : Tree) → IsNamed space → asked_by (fields_in (find_body space (by_id id) (record plain_find { limit = Some (negsuc 0) }) None)) ≡ Some (asks_query (record_query space id))
-unfolding find_of space_at
-found_by space id named = rw (named.db, named.coll) refl
-
-listed_by : (space : Space) (id : Tree) → IsNamed space → asked_by (fields_in (find_body space (of_file id) (record plain_find { sort = Some in_order }) None)) ≡ Some (asks_query (chunks_query space id))
-unfolding find_of space_at
-listed_by space id named = rw (named.db, named.coll) refl
-
-module _ (b : ClientBucket) (at : Bucket) (plain : IsPlainAt b at) where
-  found_plain : (id : Tree) → found_lines b id ≡ find_body b.files (by_id id) (record plain_find { limit = Some (negsuc 0) }) None
-  found_plain id = ap₂ (λ reads asks. find_body b.files (by_id id) (record plain_find { read_concern = reads; selection_criteria = asks; limit = Some (negsuc 0) }) None) plain.no_concern plain.no_criteria
-
-  listed_plain : (id : Tree) → listed_lines b id ≡ find_body b.chunks (of_file id) (record plain_find { sort = Some in_order }) None
-  listed_plain id = ap₂ (λ reads asks. find_body b.chunks (of_file id) (record plain_find { read_concern = reads; selection_criteria = asks; sort = Some in_order }) None) plain.no_concern plain.no_criteria
-
+module _ (b : ClientBucket) (at : Bucket) (named : IsNamedAt b at) where
   pub found_asks : (id : Tree) (command : List ℕ) → fields command ≡ fields_in (found_lines b id) → asked command ≡ asks_query (record_query (files_space at) id)
   found_asks id command is =
-      as_query command (fields_in (find_body b.files (by_id id) (record plain_find { limit = Some (negsuc 0) }) None)) (record_query b.files id) (is ∙ ap fields_in (found_plain id)) (found_by b.files id plain.files)
-      ∙ ap (λ (s : Space). asks_query (record_query s id)) plain.place.files
+      find_asks command b.files (by_id id) (record (reading_options b) { limit = Some (negsuc 0) }) None named.files (record { known = refl; closes = refl }) (reads_fit b) is
+      ∙ ap (λ (s : Space). asks_query (record_query s id)) named.place.files
 
   pub listed_asks : (id : Tree) (command : List ℕ) → fields command ≡ fields_in (listed_lines b id) → asked command ≡ asks_query (chunks_query (chunks_space at) id)
   listed_asks id command is =
-      as_query command (fields_in (find_body b.chunks (of_file id) (record plain_find { sort = Some in_order }) None)) (chunks_query b.chunks id) (is ∙ ap fields_in (listed_plain id)) (listed_by b.chunks id plain.chunks)
-      ∙ ap (λ (s : Space). asks_query (chunks_query s id)) plain.place.chunks
+      find_asks command b.chunks (of_file id) (record (reading_options b) { sort = Some in_order }) None named.chunks (record { known = refl; closes = refl }) (reads_fit b) is
+      ∙ ap (λ (s : Space). asks_query (chunks_query s id)) named.place.chunks
 
 -- ---- replies
 
@@ -205,7 +191,7 @@ behind_of new p (second ticket) h n (inl e) = h n e
 behind_of new p (second ticket) h n (inr none) = absurd none
 
 -- the places of the calls that the opening sent meet a condition
-module _ (b : ClientBucket) (at : Bucket) (plain : IsPlainAt b at) (id : Tree) (wire : ℤ) (mine : ℕ → Type 0) where
+module _ (b : ClientBucket) (at : Bucket) (named : IsNamedAt b at) (id : Tree) (wire : ℤ) (mine : ℕ → Type 0) where
   quietly : (old new : Awaited) (log log' : LogTold) (calls : List Call) (r q : Opened) → log ≡ Some calls → SendsNothing old new log log' → r ≡ q → opened_owner new q ≡ nobody → AfterIt new mine calls at id q → Grown new mine calls log' at id nobody r
   quietly old new log log' calls r q told_is none is owner after =
       (calls, none.log_same ∙ told_is, subst (λ (x : Opened). Passes calls calls nobody (opened_owner new x)) (sym is) (subst (λ (x : Owner). Passes calls calls nobody x) (sym owner) (passes_same calls nobody (holds_nobody calls))), subst (AfterIt new mine calls at id) (sym is) after)
@@ -219,7 +205,7 @@ module _ (b : ClientBucket) (at : Bucket) (plain : IsPlainAt b at) (id : Tree) (
       q = chunks_query (chunks_space at) f.id
 
       ran : (calls' : List Call) × (log' ≡ Some calls') × CameKnown new calls calls' q (finder_at old s.stage) on.came
-      ran = query_ran q old new log log' wire s on.came (listed_asks b at plain f.id s.command command) on.runs calls told_is finding_so
+      ran = query_ran q old new log log' wire s on.came (listed_asks b at named f.id s.command command) on.runs calls told_is finding_so
 
       order : (n : ℕ) → IsAtOwn calls (finder_at old s.stage) n → k.front.place < n
       order n (inl of) = behind_of old k.front.place s.stage stands n of
@@ -262,10 +248,10 @@ module _ (b : ClientBucket) (at : Bucket) (plain : IsPlainAt b at) (id : Tree) (
   -- the record is waited for
   finds_known : (old new : Awaited) (log log' : LogTold) (s : Sending) (r : Opened) (calls : List Call) → log ≡ Some calls → fields s.command ≡ fields_in (found_lines b id) → FindingAt old calls (record_query (files_space at) id) s.stage → ((n : ℕ) → IsAtOwn calls (finder_at old s.stage) n → mine n) → FindsOn old new log log' wire b id s r → Grown new mine calls log' at id (finder_at old s.stage) r
   finds_known old new log log' s r calls told_is command finding_so own (finding.pends still runs is) =
-      let x = query_ran (record_query (files_space at) id) old new log log' wire s (came.Pending still) (found_asks b at plain id s.command command) runs calls told_is finding_so in
+      let x = query_ran (record_query (files_space at) id) old new log log' wire s (came.Pending still) (found_asks b at named id s.command command) runs calls told_is finding_so in
       (x.0, x.1, subst (λ (y : Opened). Passes calls x.0 (finder_at old s.stage) (opened_owner new y)) (sym is) x.2.1, subst (AfterIt new mine x.0 at id) (sym is) x.2.0)
   finds_known old new log log' s r calls told_is command finding_so own (finding.hears between log_between bytes runs on) =
-      let x = query_ran (record_query (files_space at) id) old between log log_between wire s (came.Done bytes) (found_asks b at plain id s.command command) runs calls told_is finding_so in
+      let x = query_ran (record_query (files_space at) id) old between log log_between wire s (came.Done bytes) (found_asks b at named id s.command command) runs calls told_is finding_so in
       let more = longer calls x.0 (nobody_onward calls x.0 (finder_at old s.stage) nobody x.2.0).grown in
       let known : (f : FileRecord) → ReadsRecord bytes (Some f) → (k : KnowsRecord x.0 at id f) × mine k.front.place
       = λ f reads_so.
@@ -274,7 +260,7 @@ module _ (b : ClientBucket) (at : Bucket) (plain : IsPlainAt b at) (id : Tree) (
       let g = heard_known between new log_between log' bytes r x.0 x.1 known (λ n since. own n (inr (omega (arith, more, since)))) on in
       (g.0, g.1, passes_on calls x.0 g.0 (finder_at old s.stage) nobody (opened_owner new r) x.2.0 g.2, g.3)
   finds_known old new log log' s r calls told_is command finding_so own (finding.failed e runs is) =
-      let x = query_ran (record_query (files_space at) id) old new log log' wire s (came.Failed e) (found_asks b at plain id s.command command) runs calls told_is finding_so in
+      let x = query_ran (record_query (files_space at) id) old new log log' wire s (came.Failed e) (found_asks b at named id s.command command) runs calls told_is finding_so in
       (x.0, x.1, subst (λ (y : Opened). Passes calls x.0 (finder_at old s.stage) (opened_owner new y)) (sym is) x.2, subst (AfterIt new mine x.0 at id) (sym is) tt)
 
   begins_known : (old new : Awaited) (log log' : LogTold) (r : Opened) (calls : List Call) → log ≡ Some calls → ((n : ℕ) → IsAtOwn calls nobody n → mine n) → BeginsFind old new log log' wire b id r → Grown new mine calls log' at id nobody r
@@ -285,13 +271,13 @@ module _ (b : ClientBucket) (at : Bucket) (plain : IsPlainAt b at) (id : Tree) (
   begins_known old new log log' r calls told_is own (finding.not_built e why none is) = quietly old new log log' calls r (fails e) told_is none is refl tt
 
 module _ (old new : Awaited) (log log' : LogTold) (wire : ℤ) (at : Bucket) (o : ClientFinding) (r : Opened) (sound : IsSoundFinding o) where
-  after_it : (begun calls : List Call) (doing : Looking) → o.doing ≡ doing → (q : Opened) → ((b : ClientBucket) → o.bucket ≡ Some b → IsPlainAt b at) → AfterIt new (IsAtOwn begun (looking_owner old doing)) calls at o.id q → AfterOpening old new (length begun) calls at o q
+  after_it : (begun calls : List Call) (doing : Looking) → o.doing ≡ doing → (q : Opened) → ((b : ClientBucket) → o.bucket ≡ Some b → IsNamedAt b at) → AfterIt new (IsAtOwn begun (looking_owner old doing)) calls at o.id q → AfterOpening old new (length begun) calls at o q
   after_it begun calls doing is (waits next) placed h = record { placed = placed; by = h }
   after_it begun calls doing is (opens d) placed h = (h.0, h.1, subst (λ (x : Looking). IsAtOwn begun (looking_owner old x) h.0) (sym is) h.2)
   after_it begun calls doing is (fails e) placed h = tt
 
   -- from where it stands
-  from_it : (calls : List Call) (doing : Looking) → o.doing ≡ doing → ((b : ClientBucket) → o.bucket ≡ Some b → IsPlainAt b at) → Grown new (IsAtOwn calls (looking_owner old doing)) calls log' at o.id (looking_owner old doing) r
+  from_it : (calls : List Call) (doing : Looking) → o.doing ≡ doing → ((b : ClientBucket) → o.bucket ≡ Some b → IsNamedAt b at) → Grown new (IsAtOwn calls (looking_owner old doing)) calls log' at o.id (looking_owner old doing) r
       → (calls' : List Call) × (log' ≡ Some calls') × Passes calls calls' (looking_owner old o.doing) (opened_owner new r) × AfterOpening old new (length calls) calls' at o r
   from_it calls doing is placed g = (g.0, g.1, subst (λ (d : Looking). Passes calls g.0 (looking_owner old d) (opened_owner new r)) (sym is) g.2, after_it calls g.0 doing is r placed g.3)
 

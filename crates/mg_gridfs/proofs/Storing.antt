@@ -119,6 +119,7 @@ module _ (old new : Awaited) (log log' : LogTold) (at : Bucket) (u u' : ClientUp
         room = k.room;
         flies = λ n e. (let bad : None ≡ Some n = e in absurd cc);
         each = λ history legal stands others. ap (λ (f : File). f.chunks) (k.each history legal stands others) ∙ none;
+        none = λ history legal stands never. tt;
       }
 
   -- ---- the index check

@@ -39,7 +39,7 @@ use Rattle.mg_gridfs.specs.declared.download.GridFsDownloadStream.{GridFsDownloa
 use Rattle.mg_gridfs.specs.declared.download.Reading.{Reading}
 use Rattle.mg_gridfs.specs.declared.download.Turn.{Turn}
 use Rattle.mg_gridfs.specs.declared.download.Turn.TheVariants as turn
-use Rattle.mg_chunks.specs.declared.judging.Place.{Place}
+use Rattle.mg_chunks.specs.declared.judging.ReadPlace.{ReadPlace}
 use Rattle.mg_gridfs.specs.declared.polls.ReadPoll.{ReadPoll}
 use Rattle.mg_gridfs.specs.declared.polls.ReadPoll.TheVariants as read
 use Rattle.mg_gridfs.proofs.Downloading.{same_cursor, taken_as}
@@ -157,7 +157,7 @@ goes_sound old new log log' wire d s r sound turns q is = takes_sound old new lo
 
 -- ---- an empty batch
 
-pub empty_taken : (s : GridFsDownloadStream) (c : ClientCursor) (missing empty : ℕ) (reply : List ℕ) (p : Place) (r : Turn) → LooksAt (download_of s) missing reply p → p.taken ≡ s.taken → CountsEmpty c missing empty r → TakesAs c missing empty reply (fetching_of s (reads c missing empty)) s r
+pub empty_taken : (s : GridFsDownloadStream) (c : ClientCursor) (missing empty : ℕ) (reply : List ℕ) (p : ReadPlace) (r : Turn) → LooksAt (download_of s) missing reply p → p.taken ≡ s.taken → CountsEmpty c missing empty r → TakesAs c missing empty reply (fetching_of s (reads c missing empty)) s r
 empty_taken s c missing empty reply p (turn.Goes q) looks same counts =
     let known = looks.taken in
     let short : length looks.chunks ≡ 0 = omega arith in
@@ -192,7 +192,7 @@ empty_falls c missing empty (turn.Fails e) room counts = tt
 
 -- ---- a batch with chunks
 
-holds_at : (d : ClientDownload) (missing : ℕ) (reply : List ℕ) (p : Place) (looks : LooksAt d missing reply p) → BatchHolds reply looks.chunks
+holds_at : (d : ClientDownload) (missing : ℕ) (reply : List ℕ) (p : ReadPlace) (looks : LooksAt d missing reply p) → BatchHolds reply looks.chunks
 holds_at d missing reply p looks = batch_holds d.file d.taken reply looks.array looks.chunks looks.is_array looks.bytes_are looks.in_order
 
 record Begins (documents chunks : List (List ℕ)) : Type 0 where
@@ -212,16 +212,16 @@ begins_by (x ∷ xs) chunks h full =
     let long : 0 < length (concat chunks) = omega arith in
     record { first = x; more = xs; these = refl; bytes = h.some; long = long }
 
-full_at : (d : ClientDownload) (missing : ℕ) (reply : List ℕ) (p : Place) (looks : LooksAt d missing reply p) → (p.taken ≡ d.taken → ⊥) → length looks.chunks ≡ 0 → ⊥
+full_at : (d : ClientDownload) (missing : ℕ) (reply : List ℕ) (p : ReadPlace) (looks : LooksAt d missing reply p) → (p.taken ≡ d.taken → ⊥) → length looks.chunks ≡ 0 → ⊥
 full_at d missing reply p looks other none = other (let known = looks.taken in omega arith)
 
-pub has_chunks : (d : ClientDownload) (missing : ℕ) (reply : List ℕ) (p : Place) → LooksAt d missing reply p → (p.taken ≡ d.taken → ⊥) → HasChunks reply
+pub has_chunks : (d : ClientDownload) (missing : ℕ) (reply : List ℕ) (p : ReadPlace) → LooksAt d missing reply p → (p.taken ≡ d.taken → ⊥) → HasChunks reply
 has_chunks d missing reply p looks other =
     let h = holds_at d missing reply p looks in
     let b = begins_by h.documents looks.chunks h.hold (full_at d missing reply p looks other) in
     record { first = b.first; more = b.more; there = h.there ∙ ap (λ (ds : List (List ℕ)). Some ds) b.these; bytes = b.bytes }
 
-pub kept_falls : (d : ClientDownload) (missing empty : ℕ) (reply : List ℕ) (p : Place) → LooksAt d missing reply p → (p.taken ≡ d.taken → ⊥) → 0 < missing → rank p.missing 0 < rank missing empty
+pub kept_falls : (d : ClientDownload) (missing empty : ℕ) (reply : List ℕ) (p : ReadPlace) → LooksAt d missing reply p → (p.taken ≡ d.taken → ⊥) → 0 < missing → rank p.missing 0 < rank missing empty
 kept_falls d missing empty reply p looks other short =
     let h = holds_at d missing reply p looks in
     let long = (begins_by h.documents looks.chunks h.hold (full_at d missing reply p looks other)).long in
@@ -237,7 +237,7 @@ with_some : (chunks : List (List ℕ)) (c : ClientCursor) (missing empty : ℕ) 
 with_some [] c missing empty d full = absurd (full refl)
 with_some (x ∷ xs) c missing empty d full = refl
 
-pub kept_taken : (s s' : GridFsDownloadStream) (c : ClientCursor) (missing empty : ℕ) (reply : List ℕ) (p : Place) → LooksAt (download_of s) missing reply p → (p.taken ≡ s.taken → ⊥) → KeepsBatch s s' p.taken reply → TakesBatch c missing empty reply (fetching_of s (reads c missing empty)) (fetching_of s' (reads c p.missing 0))
+pub kept_taken : (s s' : GridFsDownloadStream) (c : ClientCursor) (missing empty : ℕ) (reply : List ℕ) (p : ReadPlace) → LooksAt (download_of s) missing reply p → (p.taken ≡ s.taken → ⊥) → KeepsBatch s s' p.taken reply → TakesBatch c missing empty reply (fetching_of s (reads c missing empty)) (fetching_of s' (reads c p.missing 0))
 kept_taken s s' c missing empty reply p looks other keeps =
     let d = download_of s in
     let h = holds_at d missing reply p looks in

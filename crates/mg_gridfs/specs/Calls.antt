@@ -184,10 +184,8 @@ LeavesEnd call u u' end.Pending = (phase : Phase) × (u'.doing ≡ busy call pha
 LeavesEnd call u u' end.Done = u'.doing ≡ closed
 LeavesEnd call u u' (end.Failed e) = (u'.doing ≡ closed) ⊎ ((u' ≡ u) × TakesNoClose u.doing × (e ≡ stream_closed))
 
--- a flush does nothing: what is left does not fill a chunk
+-- a flush does nothing, unless the upload has ended: what is left does not fill a chunk
 abbrev pub TakesFlush : Doing → Type 0
 TakesFlush idle = Unit {0}
-TakesFlush (busy (write piece) phase) = Unit {0}
-TakesFlush (busy close phase) = Unit {0}
-TakesFlush (busy abort phase) = ⊥
+TakesFlush (busy call phase) = Unit {0}
 TakesFlush closed = ⊥

@@ -124,16 +124,20 @@ LookingKnown awaited calls at id starts = Unit {0}
 LookingKnown awaited calls at id (finds sending) = FindingAt awaited calls (record_query (files_space at) id) sending.stage
 LookingKnown awaited calls at id (lists file count sending) = (r : KnowsRecord calls at id file) × FindingAt awaited calls (chunks_query (chunks_space at) file.id) sending.stage × StandsBehind awaited r.front.place sending.stage
 
--- its collections are those of the bucket of the server, whose reads say nothing of what is read, and of who may be asked
-pub record IsPlainAt (b : ClientBucket) (at : Bucket) : Type 0 where
+-- its collections are those of the bucket of the server, and have names that may be
+pub record IsNamedAt (b : ClientBucket) (at : Bucket) : Type 0 where
   pub place : IsAt b at
   pub files : IsNamed b.files
   pub chunks : IsNamed b.chunks
+
+-- besides, its reads say nothing of what is read, and of who may be asked
+pub record IsPlainAt (b : ClientBucket) (at : Bucket) : Type 0 where
+  pub named : IsNamedAt b at
   pub no_concern : b.reads ≡ None
   pub no_criteria : b.asks ≡ None
 
 pub record KnowsOpening (awaited : Awaited) (calls : List Call) (at : Bucket) (o : ClientFinding) : Type 0 where
-  pub placed : (b : ClientBucket) → o.bucket ≡ Some b → IsPlainAt b at
+  pub placed : (b : ClientBucket) → o.bucket ≡ Some b → IsNamedAt b at
   pub by : LookingKnown awaited calls at o.id o.doing
 
 -- ---- which cursors are its own

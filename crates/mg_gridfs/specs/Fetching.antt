@@ -21,7 +21,7 @@ use Rattle.mg_gridfs.specs.declared.download.GridFsDownloadStream.{GridFsDownloa
 use Rattle.mg_gridfs.specs.declared.download.Reading.{Reading}
 use Rattle.mg_gridfs.specs.declared.download.Turn.{Turn}
 use Rattle.mg_gridfs.specs.declared.download.Turn.TheVariants as turn
-use Rattle.mg_chunks.specs.declared.judging.Place.{Place}
+use Rattle.mg_chunks.specs.declared.judging.ReadPlace.{ReadPlace}
 use Rattle.mg_gridfs.specs.declared.polls.ReadPoll.{ReadPoll}
 use Rattle.mg_gridfs.specs.declared.polls.ReadPoll.TheVariants as read
 
@@ -93,7 +93,7 @@ CountsEmpty cursor missing empty (turn.Ends c) = ⊥
 CountsEmpty cursor missing empty (turn.Fails e) = (most_empty ≤ suc empty) × (e ≡ plain kind.EmptyBatches)
 
 -- the chunks of the batch are in order
-pub record LooksAt (d : ClientDownload) (missing : ℕ) (reply : List ℕ) (p : Place) : Type 0 where
+pub record LooksAt (d : ClientDownload) (missing : ℕ) (reply : List ℕ) (p : ReadPlace) : Type 0 where
   pub array : List ℕ
   pub is_array : IsDocument array
   pub bytes_are : batch_in reply ≡ Some array

@@ -19,7 +19,7 @@ ghost use Rattle.mg_gridfs.specs.Reads.{Fills, FillsFront, IsWithin, LeavesRead,
 
 use crate::hand::Hand;
 use crate::polls::ReadPoll;
-use mg_chunks::{FileSizes, Place, has_all_chunks, judge_all, missing_chunk};
+use mg_chunks::{FileSizes, ReadPlace, has_all_chunks, judge_all, missing_chunk};
 use mg_cursor::{BatchBuffer, NextPoll, RawBatch, RawBatchCursor};
 use mg_link::{Error, ErrorKind, Link, Step, plain};
 use mg_records::FilesCollectionDocument;
@@ -364,7 +364,7 @@ impl GridFsDownloadStream {
         cursor: RawBatchCursor,
         missing: usize,
         empty: u32,
-        place: Place,
+        place: ReadPlace,
         batch: RawBatch,
     ) -> Turn
         requires looks { LooksAt (download_of self.old) missing batch place }
@@ -389,14 +389,14 @@ impl GridFsDownloadStream {
     }
 
     // Looks at the chunks of a batch.
-    fn look(&self, missing: usize, batch: &RawBatch) -> Result<Place, Error>
+    fn look(&self, missing: usize, batch: &RawBatch) -> Result<ReadPlace, Error>
         requires { self.now.taken ≤ 2 ^ 31 }
         ensures ok { IfOk result (λ p. LooksAt (download_of self.now) missing batch.now p) }
         ensures err { IfErr result (λ e. Differs (download_of self.now) batch.now e) }
     {
         match batch.doc_slices() {
             Ok(chunks) => {
-                let place = Place {
+                let place = ReadPlace {
                     taken: self.taken,
                     missing,
                 };

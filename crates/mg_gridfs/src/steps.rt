@@ -11,7 +11,7 @@ ghost use Rattle.mg_ops.specs.Drawn.{AreLater};
 ghost use Rattle.mg_ops.specs.Failing.{CannotBeSent, FailsBy};
 ghost use Rattle.mg_ops.specs.Limits.{max_documents};
 ghost use Rattle.mg_chunks.specs.Buffers.{held_of};
-ghost use Rattle.mg_chunks.specs.Closings.{closing_by};
+ghost use Rattle.mg_chunks.specs.Closings.{next_in_close};
 ghost use Rattle.mg_gridfs.specs.Calls.{ending_beside, with_bytes};
 ghost use Rattle.mg_gridfs.specs.Commands.{CannotStore, IsNewRequest, chunk_document, record_lines};
 ghost use Rattle.mg_gridfs.specs.Steps.{CannotEnd, CannotFill, FailsToUndo, IsAbortOf, undone_by};
@@ -441,7 +441,7 @@ impl Upload {
     fn closing(&self) -> Closing
         requires buffer { HasBuffer self.now }
         requires short { IsShort (worker_of self.now) }
-        ensures { result ≡ closing_by (length (worker_of self.now).behind) }
+        ensures { result ≡ next_in_close (length (worker_of self.now).behind) }
     {
         next_in_close(self.buffer.rest_len())
     }

@@ -234,7 +234,7 @@ impl GridFsUploadStream {
         self.any_abort(link)
     }
 
-    /// Does nothing: what is left does not fill a chunk. It fails where the upload is closed, or is being aborted.
+    /// Does nothing: what is left does not fill a chunk. It fails where the upload is closed.
     pub fn poll_flush(&self) -> Result<(), Error>
         ensures ok { OnOk result (TakesFlush (upload_of self.now).doing) }
         ensures err { OnErr result (TakesFlush (upload_of self.now).doing → ⊥) }
@@ -244,7 +244,7 @@ impl GridFsUploadStream {
             State::Idle => Ok(()),
             State::Writing(_, _) => Ok(()),
             State::Closing(_) => Ok(()),
-            State::Aborting(_) => Err(stream_closed()),
+            State::Aborting(_) => Ok(()),
             State::Closed => Err(stream_closed()),
         }
     }

@@ -10,11 +10,11 @@ use Rattle.mg_gridfs.specs.Downloads.{ClientDownload, sizes_of}
 use Rattle.mg_gridfs.specs.DownloadView.{download_of}
 use Rattle.mg_gridfs.specs.Fetching.{Differs, LooksAt, differs, no_batch}
 use Rattle.mg_chunks.specs.Judging.{IsPlaceBehind}
-use Rattle.mg_chunks.specs.declared.judging.Place.{Place}
+use Rattle.mg_chunks.specs.declared.judging.ReadPlace.{ReadPlace}
 use Rattle.mg_gridfs.proofs.Received.{batch_array}
 use Rattle.mg_gridfs.proofs.download.GridFsDownloadStream.look.Goals as goal
 
-looked_at : (d : ClientDownload) (start p : Place) (reply array : List ℕ) → start.taken ≡ d.taken → batch_at (fields reply) ≡ Ok (items array) → batch_in reply ≡ Some array → IsPlaceBehind (sizes_of d.file) start (items array) p → LooksAt d start.missing reply p
+looked_at : (d : ClientDownload) (start p : ReadPlace) (reply array : List ℕ) → start.taken ≡ d.taken → batch_at (fields reply) ≡ Ok (items array) → batch_in reply ≡ Some array → IsPlaceBehind (sizes_of d.file) start (items array) p → LooksAt d start.missing reply p
 looked_at d start p reply array at values bytes h = record {
   array = array;
   is_array = batch_array reply array (items array) values bytes;
@@ -33,9 +33,9 @@ judge_all-requires c = c.requires
 pub returns-in-Ok-clause-ok : goal.returns-in-Ok-clause-ok
 returns-in-Ok-clause-ok c =
     let d = download_of c.args.self.now in
-    let start : Place = record { taken = c.args.self.now.taken; missing = c.args.missing } in
+    let start : ReadPlace = record { taken = c.args.self.now.taken; missing = c.args.missing } in
     IfOk-weaker c.judge_all.result (IsPlaceBehind (sizes_of (file_record c.args.self.now.file)) start (items c.in-Ok.chunks)) (LooksAt d c.args.missing c.args.batch.now)
-    (λ (p : Place). looked_at d start p c.args.batch.now c.in-Ok.chunks refl c.in-Ok.ensures.values c.in-Ok.ensures.bytes) c.judge_all.ensures.ok
+    (λ (p : ReadPlace). looked_at d start p c.args.batch.now c.in-Ok.chunks refl c.in-Ok.ensures.values c.in-Ok.ensures.bytes) c.judge_all.ensures.ok
 
 pub returns-in-Ok-clause-err : goal.returns-in-Ok-clause-err
 returns-in-Ok-clause-err c =
