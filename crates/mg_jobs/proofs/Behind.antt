@@ -87,10 +87,12 @@ module _ (c : Course) (i : ℕ) (calls : List Call) (t : PutTask) (over : (momen
 
   -- nothing touches it from there on, as long as its chunks are kept
   nobody_touches : (upto : ℕ) → KeepsUntil c i calls t upto → (position : ℕ) (step : Step) → suc recorded ≤ position → position < upto → slice_get history position ≡ Some step → LeavesFile (state_of (take position history)) step t.at t.id
-  nobody_touches upto keeps position step low high found = elim (leave position step (omega arith) (get_within history position step found) found) [
-    | inl own ↦ let late : upto ≤ position = keeps position ((over r.moment).later history stands recorded position r.by own (omega (arith, low))) in absurd (omega (arith, late, high))
-    | inr leaves ↦ leaves
-  ]
+  nobody_touches upto keeps position step low high found =
+      let early = leave.later recorded r.by.own in
+      elim (leave.leave position step (omega (arith, early, low)) (get_within history position step found) found) [
+        | inl own ↦ let late : upto ≤ position = keeps position ((over r.moment).later history stands recorded position r.by own (omega (arith, low))) in absurd (omega (arith, late, high))
+        | inr leaves ↦ leaves
+      ]
 
   whole_behind_it : (upto : ℕ) → recorded < upto → KeepsUntil c i calls t upto → IsWhole (state_of (take upto history)) t.at t.id (joined t.pieces) t.chunk
   whole_behind_it upto behind keeps =

@@ -41,10 +41,10 @@ use Rattle.mg_jobs.proofs.RecordMade.{inserted_before}
 -- ---- what a put sent
 
 -- however it ended, it sent the commands of a put
-put_sends : (supply : Supply) (t : PutTask) (ever past : Past) (commands : List Fields) (end : Ended ℕ) → PutEndsSent supply t ever past commands end → (removed : Bool) × SentSome supply t ever commands removed
-put_sends supply t ever past commands ended.Unfinished s = (s.0, s.1)
-put_sends supply t ever past commands (ended.Gave n) s = (false, (length (file_chunks t), Some s.0, s.1))
-put_sends supply t ever past commands (ended.Failed e) s = (s.0, s.1)
+put_sends : (supply : Supply) (t : PutTask) (written : ℕ) (ever past : Past) (commands : List Fields) (end : Ended ℕ) → PutEndsSent supply t written ever past commands end → (removed : Bool) × SentSome supply t ever commands removed
+put_sends supply t written ever past commands ended.Unfinished s = (s.0, s.1)
+put_sends supply t written ever past commands (ended.Gave n) s = (false, (length (file_chunks t), Some s.0, s.1))
+put_sends supply t written ever past commands (ended.Failed e) s = (s.0, s.1)
 
 module _ (awaited : Awaited) (c : Course) (j : ℕ) (calls : List Call) (wire : ℤ) (supply : Supply) (t : PutTask) (end : Ended ℕ) (p : PutEnds awaited c j calls wire supply t end) where
   -- each of its places is of a command that one of its turns sent
@@ -56,7 +56,7 @@ module _ (awaited : Awaited) (c : Course) (j : ℕ) (calls : List Call) (wire : 
   put_once : IsNamed (chunks_space t.at) → RemovesOnce c j calls t
   put_once named =
       let ever : Past = sent_at (concat p.owns ++ p.places) calls wire in
-      let s = put_sends supply t ever (sent_at p.places calls wire) (commands_at calls (places_of c j)) end p.sends in
+      let s = put_sends supply t (length p.owns) ever (sent_at p.places calls wire) (commands_at calls (places_of c j)) end p.sends in
       removes_once supply t ever c j calls s.1.0 s.1.1 s.0 s.1.2 (files_named t.at named.db) named put_own
 
 -- ---- chunks that are blamed
@@ -65,10 +65,13 @@ module _ (awaited : Awaited) (c : Course) (j : ℕ) (calls : List Call) (wire : 
 blames_behind : (c : Course) (j i : ℕ) (calls : List Call) (supply : Supply) (t : PutTask) (e : Error) → IsNamed (chunks_space t.at) → WholeBehind c j calls t → RemovesOnce c j calls t → SendsOnly (IsPutCommand supply t) c j calls → HasReadOther c i calls t.at t.id e → BlamesBehind c j i calls t e
 blames_behind c j i calls supply t e named whole once sends reads history legal stands leave =
     let x = reads history legal stands in
-    let some : (file_of (state_of (take (suc x.found.opened) history)) t.at t.id).records ≡ [] → ⊥ = λ none. (let bad : x.found.first ∷ x.found.more ≡ [] = sym x.found.stood ∙ none in absurd cc) in
-    let r = inserted_before supply t (files_named t.at named.db) named c j calls sends history legal stands leave (suc x.found.opened) some in
-    let before = r.before in
-    (x, removed_before c j i calls t e named whole history legal stands leave x r.position r.recorded (omega (arith, before)) once)
+    let some : (file_of (state_of (take (suc x.found.opened) history)) t.at t.id).records ≡ [] → ⊥ = λ none. (let bad : x.found.first ∷ x.found.more ≡ [] = sym x.found.stood ∙ none in absurd cc) in (
+      x,
+      λ since.
+          let r = inserted_before supply t (files_named t.at named.db) named c j calls sends history legal stands leave (suc x.found.opened) (omega (arith, since)) some in
+          let before = r.before in
+          removed_before c j i calls t e named whole history legal stands leave x r.position r.recorded (omega (arith, before)) once,
+    )
 
 -- the file of each put is whole behind its record
 put_whole : (c : Course) (j : ℕ) (calls : List Call) (t : PutTask) (end : Ended ℕ) → PutLeft c j calls t end → WholeBehind c j calls t

@@ -55,7 +55,7 @@ use Rattle.mg_players.proofs.GetDiffering.{whole_never}
 use Rattle.mg_players.proofs.GetEnding.{ListsSo, ended_lists, front_lists}
 use Rattle.mg_jobs.proofs.FindFirst.{find_first}
 use Rattle.mg_jobs.proofs.PlacesRise.{Rise, of_rise, rise_first}
-use Rattle.mg_jobs.proofs.Positions.{sent_place}
+use Rattle.mg_jobs.proofs.Positions.{place_sent, sent_place}
 
 -- ---- whose steps these are
 
@@ -71,19 +71,36 @@ module _ (c : Course) (i : ℕ) (calls : List Call) (wire : ℤ) (places : List 
         placed = s.placed;
       }
 
-  pub others_leave : (history : List Step) (b : Bucket) (id : Tree) → OthersLeave c i calls history b id → filing.OthersLeave (sent_at places calls wire) history b id
-  others_leave history b id leave position step found = elim (leave position step (omega arith) (get_within history position step found) found) [
-    | inl own ↦ inl (own_step position own)
-    | inr leaves ↦ inr leaves
+  -- and each of these is one of the job
+  step_of : (position : ℕ) → IsOwnStep (sent_at places calls wire) position → IsStepOf c i calls position
+  step_of position own = elim own.own [
+    | inl is ↦
+        let s = place_sent c i own.place (subst (λ (l : List ℕ). IsOf l own.place) whole is) in
+        record { done = s.0; place = own.place; sent = s.1; call = own.call; there = own.there; placed = own.placed }
+    | inr later ↦ let lt = get_within calls own.place own.call own.there in absurd (omega arith)
   ]
+
+  pub others_leave : (history : List Step) (b : Bucket) (id : Tree) → OthersLeave c i calls history b id → filing.OthersLeave (sent_at places calls wire) history b id
+  others_leave history b id leave =
+      record {
+        from = leave.from;
+        nothing = leave.nothing;
+        later = λ position own. leave.later position (step_of position own);
+        each = λ position step low found. elim (leave.leave position step low (get_within history position step found) found) [
+          | inl own ↦ inl (own_step position own)
+          | inr leaves ↦ inr leaves
+        ];
+      }
 
 -- behind the last step of the job nobody touches the file
 left_behind : (c : Course) (i : ℕ) (calls : List Call) (history : List Step) (b : Bucket) (id : Tree) (last upto position : ℕ) (step : Step) → OthersLeave c i calls history b id → IsLastStepOf c i calls last → last < upto → upto ≤ position → slice_get history position ≡ Some step
     → LeavesFile (state_of (take position history)) step b id
-left_behind c i calls history b id last upto position step leave is_last behind from found = elim (leave position step (omega arith) (get_within history position step found) found) [
-  | inl own ↦ let before : position ≤ last = is_last.last position own in absurd (omega (arith, before, behind, from))
-  | inr leaves ↦ leaves
-]
+left_behind c i calls history b id last upto position step leave is_last behind from found =
+    let early = leave.later last is_last.own in
+    elim (leave.leave position step (omega (arith, early, behind, from)) (get_within history position step found) found) [
+      | inl own ↦ let before : position ≤ last = is_last.last position own in absurd (omega (arith, before, behind, from))
+      | inr leaves ↦ leaves
+    ]
 
 -- ---- a file that is the same
 

@@ -86,7 +86,7 @@ module _ (g : GetTask) (f : FileRecord) (calls : List Call) (named : IsNamed (ch
   find_first at n (x ∷ places) rise falls p q found listed (inl same) (inr of') there there' finds lists = below_others (x ∷ []) places at p q rise (inl same) of'
   find_first at n (x ∷ places) rise falls p q found listed (inr of) (inl same') there there' finds lists =
       let first = first_falls n x places listed (ap (slice_get calls) same' ∙ there') falls in
-      let low = below_finds g f first.0 (fields listed.command) (λ is. not_both listed (found_asks (plain_bucket g.at) g.at (bucket_is_plain g named) g.id listed.command is) lists) first.2 in
+      let low = below_finds g f first.0 (fields listed.command) (λ is. not_both listed (found_asks (plain_bucket g.at) g.at (bucket_is_plain g named).named g.id listed.command is) lists) first.2 in
       absurd (not_both found finds (all_list first.0 places (omega (arith, low)) first.3 p found of there))
   find_first at n (x ∷ places) rise falls p q found listed (inr of) (inr of') there there' finds lists =
       let rest = falls_on (IsFindAt g (Some f)) n (slice_get calls x) (commands_at calls places) falls in

@@ -57,7 +57,7 @@ use Rattle.mg_script.specs.Plan.{Begin}
 use Rattle.mg_script.specs.declared.outcome.Answer.{Answer}
 use Rattle.mg_script.specs.declared.outcome.Ended.{Ended}
 use Rattle.mg_script.specs.declared.outcome.Ended.TheVariants as ended
-use Rattle.mg_players.specs.Causes.{AllSentIn, Answered, CallFalls, Course, FallsAt, KillsLast, SentIn, places_of, sent_at, CloseCaused, FollowCaused, OpenCaused, OpenStands, OpenWaits, at_rest as at_ease, in_call, in_closing}
+use Rattle.mg_players.specs.Causes.{AllSentIn, Answered, Course, FallsAt, KillsLast, SentIn, places_of, sent_at, CloseCaused, FollowCaused, OpenCaused, OpenStands, OpenWaits, at_rest as at_ease, in_call, in_closing}
 use Rattle.mg_jobs.specs.Completing.{IsThere, MayBegin, NoneRefused}
 use Rattle.mg_jobs.proofs.Created.{is_taken}
 use Rattle.mg_jobs.specs.Fated.{AreItsSteps}
@@ -70,6 +70,7 @@ use Rattle.mg_jobs.proofs.FollowFine.{HeardIn, IsFine, IsSent, aggregate_fine, h
 use Rattle.mg_jobs.proofs.Hearing.{IsTold, TellsThere}
 use Rattle.mg_jobs.proofs.Identified.{IsHonest, StandsWell, called_stands, heard_more, opened_well}
 use Rattle.mg_jobs.proofs.Killers.{kills_that, more_spares, resuming_spares}
+use Rattle.mg_players.proofs.CallPlaces.{CallFalls, call_falls, opens_falls}
 use Rattle.mg_players.proofs.Left.{places_few}
 use Rattle.mg_jobs.proofs.Mild.{IsMildCommand}
 use Rattle.mg_jobs.proofs.Openers.{IsOpenedIn, TookAt, honest_as, opened_among, opened_place, opened_watched, took_at}
@@ -496,7 +497,7 @@ module _ (history : List Kept) (fates : List Fate) (kept : AreKept 0 fates) (cal
   calls_hold wire before [] rest [] at last whole sent holds is = subst (λ (l : List ℕ). Holds l last) (sym (append-nil before)) (subst (Holds before) (sym is) holds)
   calls_hold wire before (own ∷ owns) rest (answer ∷ said) at last whole sent holds answered =
       let here : before ++ (own ++ (concat owns ++ rest)) ≡ its = ap (λ (l : List ℕ). before ++ l) (sym (append_assoc own (concat owns) rest)) ∙ whole in
-      let next = holds_after before own (concat owns ++ rest) here (sent 0 own refl) at holds wire answered.3 answer answered.0 answered.1 in
+      let next = holds_after before own (concat owns ++ rest) here (sent 0 own refl) at holds wire (call_falls calls wire at own answered.3) answer answered.0 answered.1 in
       let later : (before ++ own) ++ (concat owns ++ rest) ≡ its = append_assoc before own (concat owns ++ rest) ∙ here in
       subst (λ (l : List ℕ). Holds l last) (append_assoc before own (concat owns)) (calls_hold wire (before ++ own) owns rest said answered.0 last later (λ k o there. sent (suc k) o there) next answered.2)
   calls_hold wire before [] rest (answer ∷ said) at last whole sent holds answered = absurd answered
@@ -553,7 +554,7 @@ module _ (history : List Kept) (fates : List Fate) (kept : AreKept 0 fates) (cal
   module _ (awaited : Awaited) (count answered : ℕ) (wire : ℤ) (before places : List ℕ) (whole : before ++ (places ++ []) ≡ its) (last : ClientStream) (holds : Holds before last) where
     stands_fine : OpenStands awaited c i count answered calls wire last places → AreFine places
     stands_fine (at_ease pended less none) = λ place call p step of. absurd (subst (λ (l : List ℕ). IsOf l place) none of)
-    stands_fine (in_call pended less sent waits falls) = own_fine before places [] whole (all_sent (suc answered) places sent) last holds wire falls
+    stands_fine (in_call pended less sent waits sends) = own_fine before places [] whole (all_sent (suc answered) places sent) last holds wire (call_falls calls wire last places sends)
     stands_fine (in_closing pended all sent waits falls) = closing_fine before places last holds (all_sent answered places sent) falls
 
     end_fine : {A : Type 0} (closed : Ended A) → CloseCaused awaited c i count answered calls wire last places closed → AreFine places
@@ -564,7 +565,7 @@ module _ (history : List Kept) (fates : List Fate) (kept : AreKept 0 fates) (cal
   open_fine : {A : Type 0} (awaited : Awaited) (count : ℕ) (wire : ℤ) (said : List Answer) (token : Option Tree) (alive : Bool) (closed : Ended A) → OpenCaused awaited c i count calls wire on start filter batch said token alive closed → AreFine its
   open_fine awaited count wire said token alive closed o =
       let a = o.answers in
-      let opened = opening_holds wire a.places o.args a.first (all_sent 0 a.places a.sent) o.args_are a.opened a.opens in
+      let opened = opening_holds wire a.places o.args a.first (all_sent 0 a.places a.sent) o.args_are a.opened (opens_falls calls wire o.args a.places a.opens) in
       let called = calls_hold wire a.places a.owns o.now said a.first o.last o.whole (λ k own there. all_sent (suc k) own (a.sent_each k own there)) opened a.answered in
       let before : List ℕ = a.places ++ concat a.owns in
       let joined : before ++ o.now ≡ its = append_assoc a.places (concat a.owns) o.now ∙ o.whole in
@@ -587,7 +588,7 @@ module _ (history : List Kept) (fates : List Fate) (kept : AreKept 0 fates) (cal
   opening_fine : (awaited : Awaited) (wire : ℤ) → turns_done i c.order c.notes ≡ 0 → (pends_last i c.order c.notes ≡ true → OpenWaits awaited c i calls wire on start filter batch) → AreFine its
   opening_fine awaited wire none waits place call p step of =
       let w = waits (sent_pends c i place none of) in
-      subst AreFine w.whole (openings_fine wire w.places w.args (all_sent 0 w.places w.sent) w.args_are w.opens) place call p step of
+      subst AreFine w.whole (openings_fine wire w.places w.args (all_sent 0 w.places w.sent) w.args_are (opens_falls calls wire w.args w.places w.opens)) place call p step of
 
   -- It refused none of them.
   pub follow_taken : (awaited : Awaited) (count : ℕ) (wire : ℤ) (opened closed : Ended (Unit {0})) (said : List Answer) (token : Option Tree) (alive : Bool) → FollowCaused awaited c i count calls wire on start filter batch opened said token alive closed
@@ -596,4 +597,4 @@ module _ (history : List Kept) (fates : List Fate) (kept : AreKept 0 fates) (cal
   follow_taken awaited count wire (ended.Gave x) closed said token alive caused played = none_refused (open_fine awaited count wire said token alive closed caused)
   follow_taken awaited count wire (ended.Failed e) closed said token alive (inl room) played = none_refused (none_sent room.1)
   follow_taken awaited count wire (ended.Failed e) closed said token alive (inr f) played =
-      none_refused (subst AreFine f.whole (openings_fine wire f.places f.args (all_sent 0 f.places f.sent) f.args_are f.opens))
+      none_refused (subst AreFine f.whole (openings_fine wire f.places f.args (all_sent 0 f.places f.sent) f.args_are (opens_falls calls wire f.args f.places f.opens)))

@@ -201,7 +201,7 @@ module _ (c : Course) (i : ℕ) (begun calls : List Call) (wire : ℤ) (begun_is
     its_query = record_query (files_space g.at) g.id
 
     find_asks : (bytes : List ℕ) → fields bytes ≡ record_find g → asked bytes ≡ asks_query its_query
-    find_asks bytes is = found_asks (plain_bucket g.at) g.at bucket g.id bytes is
+    find_asks bytes is = found_asks (plain_bucket g.at) g.at bucket.named g.id bytes is
 
     listing_asks : (id : Tree) (bytes : List ℕ) → fields bytes ≡ chunks_find g id → asked bytes ≡ asks_query (chunks_query (chunks_space g.at) id)
     listing_asks id bytes is = list_asks g id bytes (chunks_named g.at named) is

@@ -25,12 +25,13 @@ use Rattle.mg_ops.proofs.Replying.{same_id}
 use Rattle.mg_change.specs.ClientStreams.{ClientStream}
 use Rattle.mg_change.specs.Sent as calling
 use Rattle.mg_change.specs.Sent.{IsSentAt, KillsReplaced}
-use Rattle.mg_players.specs.Causes.{Answered, CallFalls, FallsAt, KillsLast, sent_at}
+use Rattle.mg_players.specs.Causes.{Answered, FallsAt, KillsLast, sent_at}
 use Rattle.mg_script.specs.declared.outcome.Answer.{Answer}
 use Rattle.mg_jobs.proofs.Identified.{IsHonest, StandsWell, TellsWatch, called_stands, cursor_left, watch_at}
 use Rattle.mg_jobs.proofs.Killers.{kills_left, kills_that, more_spares, resuming_spares}
 use Rattle.mg_jobs.proofs.PlacesRise.{of_either, of_first, of_second}
 use Rattle.mg_players.proofs.Prompting.{Brings, GoesOn, IsLawful, IsWatchOnly, Opens, lawful_at, more_brings, watch_brings}
+use Rattle.mg_players.proofs.CallPlaces.{CallFalls, call_falls}
 use Rattle.mg_jobs.proofs.Refusing.{falls_each}
 use Rattle.mg_jobs.proofs.StepsAt.{opened_once, placed_once}
 use Rattle.mg_jobs.proofs.WatchStands.{KillsIt}
@@ -199,7 +200,7 @@ module _ (history : List Step) (calls : List Call) (legal : IsLegal history) (st
       let more = calls_mine answered.0 owns said last answered.2 (λ p of. sub p (of_second own (concat owns) p of)) next.0 in (
         more.0,
         (λ place of. elim (of_either own (concat owns) place of) [
-          | inl first ↦ call_mine at own 0 here well answered.3 place first
+          | inl first ↦ call_mine at own 0 here well (call_falls calls wire at own answered.3) place first
           | inr later ↦ more.1 place later
         ]),
       )

@@ -8,7 +8,7 @@ use Rattle.mg_server.specs.Commands.{Asked, asked, asks_watch, filter_stages, op
 use Rattle.mg_server.specs.Filter.{Condition}
 use Rattle.mg_link.specs.Namespace.{Target, database, collection, cluster}
 use Rattle.mg_server.specs.Prompt.{IsRefused}
-use Rattle.mg_server.specs.Rules.{Answer, Request, and_then, answer, answer_of, answer_with, batch_events, batch_id, batch_place, ended_before, ends_with, fitting, map_ok, max_name, no_such_token, place_after, place_at, request_of, size_of, token_of, token_place, watch, watch_reply, watch_space, now_of}
+use Rattle.mg_server.specs.Rules.{Answer, Request, where_ok, answer, answer_of, answer_with, batch_events, batch_id, batch_place, ended_before, ends_with, fitting, map_ok, max_name, no_such_token, place_after, place_at, request_of, size_of, token_of, token_place, watch, watch_reply, watch_space, now_of}
 use Rattle.mg_server.specs.State.{Entry, Start, State, Watch, is_invalidate, sees}
 use Rattle.mg_server.specs.State as state
 use Rattle.mg_server.proofs.Allowed.{place_fits}
@@ -91,7 +91,7 @@ module _ (s : State) (given : ℕ) (modest : AreModestEntries s.changes) (w : Wa
       let place = batch_place w s.changes from (size_of size) in
       let full = is_full_batch w s.changes from (size_of size) (place_fits s w start resumes from at) in
       let small = watch_small (batch_id (pos (suc given)) w s.changes from place) (watch_space w.target) (batch_events w s.changes from place) place (length s.changes) db coll (events_modest w s.changes from place modest) full.fits in
-      ap (λ (r : Result Request ℤ). fitting (and_then (answer s (pos (suc given))) r)) reads
+      ap (λ (r : Result Request ℤ). fitting (where_ok (answer s (pos (suc given))) r)) reads
       ∙ ap (λ (r : Result ℕ ℤ). fitting (map_ok (λ (p : ℕ). answer_with [] (reply_from p (size_of size))) r)) at
       ∙ fits (answer_with [] (reply_from from (size_of size))) small
 

@@ -3,12 +3,13 @@ use Rattle.std.proofs.Common.{◌≡◌, ◌+◌, ◌≤◌, ℕ, zero, suc, ℤ
 use Rattle.std.specs.Prelude.{slice_get}
 use Rattle.std.specs.List.{sum_by}
 use Rattle.std.proofs.lemmas.List.{append-nil, take_all}
+use Rattle.mg_link.specs.Causes.{one_if}
 use Rattle.mg_link.specs.Link.{Awaited, Polls, SamePolls, LogTold}
 use Rattle.mg_link.specs.Log.{Call}
 use Rattle.mg_link.specs.declared.error.Error.{Error}
 use Rattle.mg_server.proofs.Owners.{same_some}
 use Rattle.mg_players.specs.Causes.{AllPollOwn, IsPolledIn, in_turn, before_it, PollOwnFrom, PollsOwn, SentIn, SentNoneBehind, course}
-use Rattle.mg_turns.specs.Counts.{IsNewest, NewestAt, sent_last, was_held, PolledBy, StartedBy, one_if}
+use Rattle.mg_turns.specs.Counts.{IsNewest, NewestAt, sent_last, was_held, PolledBy, StartedBy}
 use Rattle.mg_players.specs.Drawing.{HaveDrawn, first_id}
 use Rattle.mg_players.specs.Puts.{Supply}
 use Rattle.mg_players.specs.Progress.{AllAt, IsAt, calls_of, pends_last, turns_done}

@@ -1,7 +1,7 @@
 -- The steps of a job in the history of its store.
-use Rattle.std.proofs.Common.{◌≡◌, ◌+◌, ◌<◌, ◌≤◌, ℕ, List, [], ◌∷◌, ◌++◌, length, Option, Some, Contains, refl, sym, ap, ◌∙◌, subst, inl, inr, arith}
-use Rattle.std.specs.Prelude.{cond, nat_eq, option_and_then, slice_get}
-use Rattle.std.proofs.lemmas.Bool.{eq-eqb}
+use Rattle.std.proofs.Common.{◌≡◌, ◌+◌, ◌<◌, ◌≤◌, ℕ, zero, suc, List, [], ◌∷◌, ◌++◌, length, Option, Some, Contains, refl, sym, ap, ◌∙◌, subst, inl, inr, arith}
+use Rattle.std.specs.Prelude.{Bool, true, false, cond, nat_eq, option_and_then, slice_get}
+use Rattle.std.proofs.lemmas.Bool.{eq-eqb, eqb-true}
 use Rattle.std.proofs.lemmas.List.Elements.{Contains-append_right}
 use Rattle.std.proofs.lemmas.List.Sums.{sum_by-cons}
 use Rattle.mg_server.specs.History.{IsLegal, Step}
@@ -13,7 +13,8 @@ use Rattle.mg_players.specs.Causes.{Course, SentIn, places_from, places_in, plac
 use Rattle.mg_jobs.specs.Completing.{AnswersWell, AnswersWellIn, NoneRefused, own_position, positions_at}
 use Rattle.mg_jobs.proofs.Created.{CreationsMeet, prompt_where_taken}
 use Rattle.mg_players.proofs.Newest.{started_in}
-use Rattle.mg_players.proofs.Telling.{from_is, in_first, in_second}
+use Rattle.mg_players.proofs.Telling.{from_is, in_either, in_first, in_second}
+use Rattle.mg_players.specs.Progress.{turns_done}
 use Rattle.mg_turns.specs.declared.turned.Turned.{Turned}
 
 places_hold : (i : ℕ) (before : List ℕ) (noted : List Turned) (after : List ℕ) (note : Turned) (later : List Turned) (at place : ℕ) → length noted ≡ length before → at + started_in noted ≤ place → place < at + started_in noted + note.started → IsOf (places_in i (before ++ i ∷ after) (noted ++ note ∷ later) at) place
@@ -33,6 +34,55 @@ pub sent_place : (c : Course) (i k place : ℕ) → SentIn c i k place → IsOf 
 sent_place c i k place s =
     subst (λ (order : List ℕ). IsOf (places_in i order c.notes c.begun) place) (sym s.order_is)
     (subst (λ (notes : List Turned). IsOf (places_in i (s.before ++ i ∷ s.after) notes c.begun) place) (sym s.notes_are) (places_hold i s.before s.noted s.after s.note s.later c.begun place s.abreast s.from s.upto))
+
+-- What stands at its places it sent.
+
+within_from : (at n place : ℕ) → IsOf (places_from at n) place → (at ≤ place) × (place < at + n)
+within_from at zero place of = absurd of
+within_from at (suc n) place (inl e) = (omega (arith, e), omega (arith, e))
+within_from at (suc n) place (inr of) = let r = within_from (suc at) n place of in let low = r.0 in let high = r.1 in (omega (arith, low), omega (arith, high))
+
+-- in the turn whose commands begin at this place
+place_here : (i n : ℕ) (order : List ℕ) (note : Turned) (notes : List Turned) (at place : ℕ) (b : Bool) → nat_eq i n ≡ b → IsOf (cond b (places_from at note.started) []) place → (k : ℕ) × SentIn (record { begun = at; order = n ∷ order; notes = note ∷ notes }) i k place
+place_here i n order note notes at place false is here = absurd here
+place_here i n order note notes at place true is here =
+    let same : i ≡ n = eqb-true i n is in
+    let within = within_from at note.started place here in
+    let none : started_in [] ≡ 0 = refl in
+    (turns_done i [] [], record { before = []; after = order; order_is = ap (λ (m : ℕ). m ∷ order) (sym same); noted = []; note = note; later = notes; notes_are = refl; abreast = refl; done = refl; from = omega (arith, none, within.0); upto = omega (arith, none, within.1) })
+
+place_in : (i : ℕ) (order : List ℕ) (notes : List Turned) (at place : ℕ) → IsOf (places_in i order notes at) place → (k : ℕ) × SentIn (record { begun = at; order = order; notes = notes }) i k place
+place_in i [] notes at place is = absurd is
+place_in i (n ∷ order) [] at place is = absurd is
+place_in i (n ∷ order) (note ∷ notes) at place is = elim (in_either (cond (nat_eq i n) (places_from at note.started) []) (places_in i order notes (at + note.started)) place is) [
+  | inl here ↦ place_here i n order note notes at place (nat_eq i n) refl here
+  | inr after ↦
+      let s = (place_in i order notes (at + note.started) place after).1 in
+      let sum : started_in (note ∷ s.noted) ≡ note.started + started_in s.noted = sum_by-cons (λ (t : Turned). t.started) note s.noted in
+      let abreast = s.abreast in
+      let from = s.from in
+      let upto = s.upto in (
+        turns_done i (n ∷ s.before) (note ∷ s.noted),
+        record {
+          before = n ∷ s.before;
+          after = s.after;
+          order_is = ap (λ (l : List ℕ). n ∷ l) s.order_is;
+          noted = note ∷ s.noted;
+          note = s.note;
+          later = s.later;
+          notes_are = ap (λ (l : List Turned). note ∷ l) s.notes_are;
+          abreast = omega (arith, abreast);
+          done = refl;
+          from = omega (arith, sum, from);
+          upto = omega (arith, sum, upto);
+        },
+      )
+]
+
+pub place_sent : (c : Course) (i place : ℕ) → IsOf (places_of c i) place → (k : ℕ) × SentIn c i k place
+place_sent c i place is =
+    let s = place_in i c.order c.notes c.begun place is in
+    (s.0, record { before = s.1.before; after = s.1.after; order_is = s.1.order_is; noted = s.1.noted; note = s.1.note; later = s.1.later; notes_are = s.1.notes_are; abreast = s.1.abreast; done = s.1.done; from = s.1.from; upto = s.1.upto })
 
 pub has_position : (calls : List Call) (places : List ℕ) (place : ℕ) (call : Call) (position : ℕ) → IsOf places place → slice_get calls place ≡ Some call → call.position ≡ Some position → Contains (positions_at calls places) position
 has_position calls [] place call position of there at = absurd of

@@ -35,10 +35,10 @@ pub record SomeSent (supply : Supply) (t : PutTask) (ever : Past) (commands : Li
   pub removed : Bool
   pub sends : PutSends supply t ever commands upto moment removed
 
-pub some_sent : (supply : Supply) (t : PutTask) (ever past : Past) (commands : List Fields) (end : Ended ℕ) → PutEndsSent supply t ever past commands end → SomeSent supply t ever commands
-some_sent supply t ever past commands ended.Unfinished h = record { upto = h.1.0; moment = h.1.1; removed = h.0; sends = h.1.2 }
-some_sent supply t ever past commands (ended.Gave n) h = record { upto = length (file_chunks t); moment = Some h.0; removed = false; sends = h.1 }
-some_sent supply t ever past commands (ended.Failed e) h = record { upto = h.1.0; moment = h.1.1; removed = h.0; sends = h.1.2 }
+pub some_sent : (supply : Supply) (t : PutTask) (written : ℕ) (ever past : Past) (commands : List Fields) (end : Ended ℕ) → PutEndsSent supply t written ever past commands end → SomeSent supply t ever commands
+some_sent supply t written ever past commands ended.Unfinished h = record { upto = h.1.0; moment = h.1.1; removed = h.0; sends = h.1.2 }
+some_sent supply t written ever past commands (ended.Gave n) h = record { upto = length (file_chunks t); moment = Some h.0; removed = false; sends = h.1 }
+some_sent supply t written ever past commands (ended.Failed e) h = record { upto = h.1.0; moment = h.1.1; removed = h.0; sends = h.1.2 }
 
 -- one that sent nothing has no record
 none_behind : (c : Course) (i : ℕ) (calls : List Call) (t : PutTask) → places_of c i ≡ [] → WholeBehind c i calls t
@@ -82,18 +82,18 @@ put_filed awaited c i n calls wire supply t q done (puts.Begins begun) tells sen
 put_filed awaited c i n calls wire supply t q done (puts.Goes going) tells sent ends_so =
     let u = upload_of going.upload in
     let past : Past = sent_at (all_places q) calls wire in
-    put_behind c i calls wire (all_places q) sent.whole supply t (sent_at (concat ends_so.owns ++ ends_so.places) calls wire) (some_sent supply t (sent_at (concat ends_so.owns ++ ends_so.places) calls wire) (sent_at ends_so.places calls wire) (commands_at calls (places_of c i)) ended.Unfinished ends_so.sends)
+    put_behind c i calls wire (all_places q) sent.whole supply t (sent_at (concat ends_so.owns ++ ends_so.places) calls wire) (some_sent supply t (length ends_so.owns) (sent_at (concat ends_so.owns ++ ends_so.places) calls wire) (sent_at ends_so.places calls wire) (commands_at calls (places_of c i)) ended.Unfinished ends_so.sends)
     (names_of awaited past t u (taken_in u.doing t.pieces done) tells.0.aim_is tells.0.knows) (doing_laid past t u.doing tells.0.lays)
 put_filed awaited c i n calls wire supply t q done (puts.Ended ended.Unfinished) tells sent ends_so =
-    end_behind c i calls wire (all_places q) sent.whole supply t (sent_at (concat ends_so.owns ++ ends_so.places) calls wire) (some_sent supply t (sent_at (concat ends_so.owns ++ ends_so.places) calls wire) (sent_at ends_so.places calls wire) (commands_at calls (places_of c i)) ended.Unfinished ends_so.sends) tells.5
+    end_behind c i calls wire (all_places q) sent.whole supply t (sent_at (concat ends_so.owns ++ ends_so.places) calls wire) (some_sent supply t (length ends_so.owns) (sent_at (concat ends_so.owns ++ ends_so.places) calls wire) (sent_at ends_so.places calls wire) (commands_at calls (places_of c i)) ended.Unfinished ends_so.sends) tells.5
 put_filed awaited c i n calls wire supply t q done (puts.Ended (ended.Gave size)) tells sent ends_so = (
   put_left c i calls wire (all_places q) t sent.whole tells.2.2,
-  end_behind c i calls wire (all_places q) sent.whole supply t (sent_at (concat ends_so.owns ++ ends_so.places) calls wire) (some_sent supply t (sent_at (concat ends_so.owns ++ ends_so.places) calls wire) (sent_at ends_so.places calls wire) (commands_at calls (places_of c i)) (ended.Gave size) ends_so.sends) tells.5,
+  end_behind c i calls wire (all_places q) sent.whole supply t (sent_at (concat ends_so.owns ++ ends_so.places) calls wire) (some_sent supply t (length ends_so.owns) (sent_at (concat ends_so.owns ++ ends_so.places) calls wire) (sent_at ends_so.places calls wire) (commands_at calls (places_of c i)) (ended.Gave size) ends_so.sends) tells.5,
 )
 put_filed awaited c i n calls wire supply t q done (puts.Ended (ended.Failed e)) tells sent ends_so = (
   λ leaves. elim tells.2 [
     | inl cannot ↦ put_sent_none c i calls t (sym sent.whole ∙ cannot.1)
     | inr fails ↦ put_cleared c i calls wire (all_places q) t sent.whole (fails.2 leaves)
   ],
-  end_behind c i calls wire (all_places q) sent.whole supply t (sent_at (concat ends_so.owns ++ ends_so.places) calls wire) (some_sent supply t (sent_at (concat ends_so.owns ++ ends_so.places) calls wire) (sent_at ends_so.places calls wire) (commands_at calls (places_of c i)) (ended.Failed e) ends_so.sends) tells.5,
+  end_behind c i calls wire (all_places q) sent.whole supply t (sent_at (concat ends_so.owns ++ ends_so.places) calls wire) (some_sent supply t (length ends_so.owns) (sent_at (concat ends_so.owns ++ ends_so.places) calls wire) (sent_at ends_so.places calls wire) (commands_at calls (places_of c i)) (ended.Failed e) ends_so.sends) tells.5,
 )

@@ -5,12 +5,20 @@ use Rattle.mg_bson.specs.Raw.{fields}
 use Rattle.mg_bson.specs.Tree.{Fields}
 use Rattle.mg_server.specs.Calls.{Past}
 use Rattle.mg_link.specs.Log.{Call}
+use Rattle.mg_link.specs.Namespace.{Space, space}
 use Rattle.mg_server.specs.Owner.{IsOf}
+use Rattle.mg_ops.specs.Cursors.{next_command}
+use Rattle.mg_ops.specs.Naming.{IsNamed}
+use Rattle.mg_ops.proofs.Reading.{named_read}
+use Rattle.mg_cursor.specs.Client.{ClientCursor, at_rest, behind_reply, new_client}
 use Rattle.mg_gridfs.specs.Buckets.{ClientBucket}
 use Rattle.mg_gridfs.specs.declared.indexes.Place.{Place}
 use Rattle.mg_gridfs.specs.declared.indexes.Place.TheVariants as which
 use Rattle.mg_players.specs.Causes.{commands_at}
-use Rattle.mg_players.specs.PutChecks.{AreGetMores, CheckSends, IsGetMore, SendsBefore, SendsIndex, SendsList, SendsPart, SendsWhole, any_find, creation, index_creation, listing, to_creation, to_find, to_index, to_list, to_listing, to_part, where_missing}
+use Rattle.mg_players.specs.Gets.{no_manner}
+use Rattle.mg_players.specs.InTurn.{AreInTurn}
+use Rattle.mg_players.specs.PutFailures.{IsOfList}
+use Rattle.mg_players.specs.PutChecks.{AreGetMores, CheckSends, SendsBefore, SendsIndex, SendsList, SendsPart, SendsWhole, any_find, creation, index_creation, listing, to_creation, to_find, to_index, to_list, to_listing, to_part, where_missing}
 use Rattle.mg_players.specs.PutSends.{PutSends, chunks_removal, record_at, record_insert, removal_if}
 use Rattle.mg_players.specs.Puts.{PutTask, Supply, put_bucket}
 use Rattle.mg_players.proofs.PutWhich.{IntoChunks}
@@ -22,7 +30,7 @@ pub data PutKind (calls : List Call) (t : PutTask) (place : ℕ) (command : Fiel
   finds : command ≡ any_find (put_bucket t) → PutKind calls t place command
   creates : (at : Place) → command ≡ creation (put_bucket t) at → PutKind calls t place command
   lists : (at : Place) (before : ℕ) (call : Call) → slice_get calls before ≡ Some call → fields call.command ≡ creation (put_bucket t) at → before < place → command ≡ listing (put_bucket t) at → PutKind calls t place command
-  reads_on : IsGetMore command → PutKind calls t place command
+  reads_on : (id : ℤ) (space : Space) → IsNamed space → command ≡ next_command id space no_manner → PutKind calls t place command
   indexes : (at : Place) → command ≡ index_creation (put_bucket t) at → PutKind calls t place command
   into_chunks : IntoChunks t command → PutKind calls t place command
   inserts_record : (moment : ℤ) → command ≡ record_insert t moment → PutKind calls t place command
@@ -70,20 +78,29 @@ module _ (calls : List Call) (t : PutTask) where
         | inr plain ↦ plain place
       ]))
 
-  mores_behind : (at : Place) (commands : List Fields) → AreGetMores commands → Each (IsBehind at) commands
-  mores_behind at [] are = tt
-  mores_behind at (command ∷ commands) are = (inr (λ place. reads_on are.0), mores_behind at commands are.1)
+  module _ (past : Past) where
+    -- a cursor that is read on was told by a reply, which names a namespace that may be
+    turn_named : (replies : List (ℕ × List ℕ)) (c c' : ClientCursor) (last : ℕ) → IsNamed c.space → AreInTurn past c last replies c' → IsNamed c'.space
+    turn_named [] c c' last named are = subst (λ (x : ClientCursor). IsNamed x.space) (sym are) named
+    turn_named (h ∷ more) c c' last named are = turn_named more (behind_reply are.5 c) c' h.0 (named_read (fields h.1) are.5 are.6) are.7
 
-  list_begins : (at : Place) (commands : List Fields) → SendsList B at commands → BeginWith at commands
-  list_begins at commands s = record {
+    list_named : (c : ClientCursor) → IsOfList past B c → IsNamed c.space
+    list_named c l = turn_named l.replies (new_client l.out) (at_rest c) l.place (named_read (fields l.first) (record { id = l.out.info.id; space = space l.out.info.ns; token = l.out.post_batch_resume_token; batch = l.opens.opens.batch }) l.opens.opens.says) l.behind
+
+    mores_behind : (at : Place) (commands : List Fields) → AreGetMores past B at commands → Each (IsBehind at) commands
+    mores_behind at [] are = tt
+    mores_behind at (command ∷ commands) are = (let more = are.0 in (inr (λ place. reads_on more.cursor.id more.cursor.space (list_named more.cursor more.of_list) more.command_is), mores_behind at commands are.1))
+
+  list_begins : (past : Past) (at : Place) (commands : List Fields) → SendsList past B at commands → BeginWith at commands
+  list_begins past at commands s = record {
     more = replicate s.asked (listing B at) ++ s.mores;
     parts = s.parts;
-    behind = each_on (IsBehind at) (replicate s.asked (listing B at)) s.mores (each_time (IsBehind at) s.asked (listing B at) (inl refl)) (mores_behind at s.mores s.read_on);
+    behind = each_on (IsBehind at) (replicate s.asked (listing B at)) s.mores (each_time (IsBehind at) s.asked (listing B at) (inl refl)) (mores_behind past at s.mores s.read_on);
   }
 
-  index_begins : (at : Place) (count : ℕ) (commands : List Fields) → SendsIndex B at count commands → BeginWith at commands
-  index_begins at count commands s =
-      let l = list_begins at s.list s.listed in
+  index_begins : (past : Past) (at : Place) (count : ℕ) (commands : List Fields) → SendsIndex past B at count commands → BeginWith at commands
+  index_begins past at count commands s =
+      let l = list_begins past at s.list s.listed in
       let made : List Fields = replicate count (index_creation B at) in
       record { more = l.more ++ made; parts = s.parts ∙ ap (λ (xs : List Fields). xs ++ made) l.parts; behind = each_on (IsBehind at) l.more made l.behind (each_time (IsBehind at) count (index_creation B at) (inr (λ place. indexes at refl))) }
 
@@ -94,14 +111,14 @@ module _ (calls : List Call) (t : PutTask) where
 
   module _ (past : Past) where
     whole_kinds : (at : Place) (low : ℕ) (places : List ℕ) (commands : List Fields) → Rise low places → commands_at calls places ≡ commands → SendsWhole past B at commands → AreKinds places
-    whole_kinds at low places commands rise are s = behind_kinds at low places commands rise are (index_begins at (where_missing s.found) commands s.ends)
+    whole_kinds at low places commands rise are s = behind_kinds at low places commands rise are (index_begins past at (where_missing s.found) commands s.ends)
 
     part_kinds : (at : Place) (low : ℕ) (places : List ℕ) (commands : List Fields) → Rise low places → commands_at calls places ≡ commands → SendsPart past B at commands → AreKinds places
     part_kinds at low places commands rise are (to_creation n few is) = plain_kinds places commands are (subst (Each IsPlain) (sym is) (each_time IsPlain n (creation B at) (λ place. creates at refl)))
     part_kinds at low places commands rise are (to_listing heard n few is) =
         behind_kinds at low places commands rise are (record { more = replicate n (listing B at); parts = is; behind = each_time (IsBehind at) n (listing B at) (inl refl) })
-    part_kinds at low places commands rise are (to_list heard list) = behind_kinds at low places commands rise are (list_begins at commands list)
-    part_kinds at low places commands rise are (to_index heard listed n few ends) = behind_kinds at low places commands rise are (index_begins at n commands ends)
+    part_kinds at low places commands rise are (to_list heard list) = behind_kinds at low places commands rise are (list_begins past at commands list)
+    part_kinds at low places commands rise are (to_index heard listed n few ends) = behind_kinds at low places commands rise are (index_begins past at n commands ends)
 
     before_kinds : (at : Place) (low : ℕ) (places : List ℕ) (commands : List Fields) → Rise low places → commands_at calls places ≡ commands → SendsBefore past B at commands → AreKinds places
     before_kinds which.Files low places commands rise are s = find_kinds s.0.count places commands are s.0.parts

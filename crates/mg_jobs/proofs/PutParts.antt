@@ -130,18 +130,18 @@ module _ (past : Past) (b : ClientBucket) where
   so_often : (n : ℕ) (lines : List Line) → IsOfCheck b lines → AreOfCheck (replicate n (fields_in lines))
   so_often n lines of = each_time (IsCheckCommand b) n (fields_in lines) (of_check lines of refl)
 
-  mores_each : (commands : List Fields) → AreGetMores commands → AreOfCheck commands
-  mores_each [] are = tt
-  mores_each (command ∷ commands) are = let more = are.0 in (reads_on more.0 more.1 more.2, mores_each commands are.1)
+  mores_each : (k : Place) (commands : List Fields) → AreGetMores past b k commands → AreOfCheck commands
+  mores_each k [] are = tt
+  mores_each k (command ∷ commands) are = let more = are.0 in (reads_on more.cursor.id more.cursor.space more.command_is, mores_each k commands are.1)
 
   created : (k : Place) → IsCheckCommand b (creation b k)
   created k = of_check (creation_lines b k) (a_creation k refl) refl
 
-  list_each : (k : Place) (commands : List Fields) → SendsList b k commands → AreOfCheck commands
+  list_each : (k : Place) (commands : List Fields) → SendsList past b k commands → AreOfCheck commands
   list_each k commands s =
-      subst AreOfCheck (sym s.parts) (created k, each_on (IsCheckCommand b) (replicate s.asked (listing b k)) s.mores (so_often s.asked (listing_lines b k) (a_listing k refl)) (mores_each s.mores s.read_on))
+      subst AreOfCheck (sym s.parts) (created k, each_on (IsCheckCommand b) (replicate s.asked (listing b k)) s.mores (so_often s.asked (listing_lines b k) (a_listing k refl)) (mores_each k s.mores s.read_on))
 
-  index_each : (k : Place) (count : ℕ) (commands : List Fields) → SendsIndex b k count commands → AreOfCheck commands
+  index_each : (k : Place) (count : ℕ) (commands : List Fields) → SendsIndex past b k count commands → AreOfCheck commands
   index_each k count commands e = subst AreOfCheck (sym e.parts) (each_on (IsCheckCommand b) e.list (replicate count (index_creation b k)) (list_each k e.list e.listed) (so_often count (index_lines b k) (an_index k refl)))
 
   whole_each : (k : Place) (commands : List Fields) → SendsWhole past b k commands → AreOfCheck commands

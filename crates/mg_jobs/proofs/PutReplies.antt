@@ -18,7 +18,7 @@ use Rattle.mg_link.specs.Namespace.{Space}
 use Rattle.mg_server.specs.Prompt.{IsRefused}
 use Rattle.mg_server.specs.Query.{Query, id_alone, id_index, index_listed, limits, of_collection, result, selects, shows_id, through}
 use Rattle.mg_link.specs.Reply.{verdict_of}
-use Rattle.mg_server.specs.Rules.{Answer, Request, and_then, answer, answer_of, answer_with, bad_request, batch_of_query, bytes_of, collection_exists, create_collection, create_indexes, create_request, delete, delete_request, deleted_entries, deleted_event, deleted_reply, done_reply, events_may_be_given, find, find_request, fitting, id_while, indexes_request, list_indexes_request, map_ok, max_document, max_given_levels, may_stay, named_space, no_such_collection, or_code, query_reply, refused, request_of}
+use Rattle.mg_server.specs.Rules.{Answer, Request, answer, answer_of, answer_with, bad_request, batch_of_query, bytes_of, collection_exists, create_collection, create_indexes, create_request, delete, delete_request, deleted_entries, deleted_event, deleted_reply, done_reply, events_may_be_given, find, find_request, fitting, id_while, indexes_request, list_indexes_request, map_ok, max_document, max_given_levels, may_stay, named_space, no_such_collection, or_code, query_reply, refused, request_of, where_ok}
 use Rattle.mg_server.specs.State.{Collection, Entry, Index, State, collection_in, indexes_of}
 use Rattle.mg_server.specs.Step.{documents_of}
 use Rattle.mg_server.specs.Write.{chosen, with_indexes}
@@ -232,11 +232,11 @@ deleted_small n = small_none (nat_le n 2147483647) n
 module _ (s : State) (given : ℕ) (command reply : List ℕ) (read : fields reply ≡ (answer_of s (pos (suc given)) (fields command)).reply) where
   answers : (r : Request) (a : Answer) → request_of (fields command) ≡ Ok r → answer s (pos (suc given)) r ≡ Ok a → IsSmall a.reply → answer_of s (pos (suc given)) (fields command) ≡ a
   unfolding answer_of
-  answers r a reads says small = ap (λ (x : Result Request ℤ). fitting (and_then (answer s (pos (suc given))) x)) reads ∙ ap fitting says ∙ fits a small
+  answers r a reads says small = ap (λ (x : Result Request ℤ). fitting (where_ok (answer s (pos (suc given))) x)) reads ∙ ap fitting says ∙ fits a small
 
   refuses_by : (r : Request) (code : ℤ) → request_of (fields command) ≡ Ok r → answer s (pos (suc given)) r ≡ Err code → answer_of s (pos (suc given)) (fields command) ≡ refused code
   unfolding answer_of
-  refuses_by r code reads says = ap (λ (x : Result Request ℤ). fitting (and_then (answer s (pos (suc given))) x)) reads ∙ ap fitting says
+  refuses_by r code reads says = ap (λ (x : Result Request ℤ). fitting (where_ok (answer s (pos (suc given))) x)) reads ∙ ap fitting says
 
   tells_by : (r : Request) (a : Answer) (t : Told) → request_of (fields command) ≡ Ok r → answer_of s (pos (suc given)) (fields command) ≡ a → told_by (verdict_of a.reply) (asks_of r) a.reply ≡ t → told (asked command) reply ≡ t
   tells_by r a t reads is tells = ap (λ (x : Asked). told x reply) (asked_is command r reads) ∙ told_reads (asks_of r) reply a.reply (read ∙ ap (λ (x : Answer). x.reply) is) ∙ tells
@@ -294,7 +294,7 @@ module _ (s : State) (given : ℕ) (command reply : List ℕ) (read : fields rep
       let q : Query = indexes_query space in
       let reads : request_of (fields command) ≡ Ok (find q) = ap request_of is ∙ listing_read space takes in
       let says : answer s (pos (suc given)) (find q) ≡ Err no_such_collection
-      = ap (λ (o : Option Collection). and_then (λ ds. map_ok (λ found. answer_with [] (query_reply (pos (suc given)) q found)) (or_code bad_request (through q.stages ds))) (or_code no_such_collection (option_map (λ (c : Collection). map index_listed (id_index ∷ c.indexes)) o))) gone in
+      = ap (λ (o : Option Collection). where_ok (λ ds. map_ok (λ found. answer_with [] (query_reply (pos (suc given)) q found)) (or_code bad_request (through q.stages ds))) (or_code no_such_collection (option_map (λ (c : Collection). map index_listed (id_index ∷ c.indexes)) o))) gone in
       let tells = tells_by (find q) (refused no_such_collection) (refuses no_such_collection []) reads (refuses_by (find q) no_such_collection reads says) (refusal_tells (asks_query q) no_such_collection []) in
       absurd (granted (subst IsRefused (sym tells) tt))
   listing_by space takes is granted (Some c) found = record { collection = c; there = found }

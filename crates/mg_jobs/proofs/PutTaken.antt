@@ -25,7 +25,7 @@ use Rattle.mg_link.proofs.Places.{get_within}
 use Rattle.mg_server.proofs.SelfMade.{names_whole}
 use Rattle.mg_ops.specs.Bodies.{insert_command}
 use Rattle.mg_ops.specs.Cursors as cursors
-use Rattle.mg_ops.specs.Cursors.{OpensWith, cursor_of}
+use Rattle.mg_ops.specs.Cursors.{OpensWith, cursor_of, next_command}
 use Rattle.mg_ops.specs.Naming.{IsNamed}
 use Rattle.mg_ops.specs.declared.cursor_reply.CursorSpecification.{CursorSpecification}
 use Rattle.mg_ops.proofs.Asking.{asks_for_more, asks_for_more_plainly}
@@ -46,13 +46,13 @@ use Rattle.mg_players.specs.Progress.{PutPlayed}
 use Rattle.mg_players.specs.Gets.{no_manner}
 use Rattle.mg_players.specs.InTurn.{AreInTurn}
 use Rattle.mg_players.specs.Owned.{NamesNoOthers}
-use Rattle.mg_players.specs.PutChecks.{IsGetMore, any_find, creation, index_creation, listing}
+use Rattle.mg_players.specs.PutChecks.{any_find, creation, index_creation, listing}
 use Rattle.mg_players.specs.PutFailures.{IsOfList}
 use Rattle.mg_players.specs.PutSends.{chunks_removal, its_record}
 use Rattle.mg_players.specs.Puts.{PutTask, Supply, put_bucket}
 use Rattle.mg_players.proofs.GetSteps.{query_opens}
 use Rattle.mg_players.proofs.Prompting.{lawful_at, prompted}
-use Rattle.mg_jobs.specs.Completing.{EndsWell, HasShortFiles, HasShortNames, IsTaken, IsUnnamedMore, NoneRefusedBut, SaysThere, SendFresh, positions_at}
+use Rattle.mg_jobs.specs.Completing.{EndsWell, HasShortFiles, HasShortNames, IsTaken, NoneRefused, SaysThere, SendFresh, positions_at}
 use Rattle.mg_jobs.specs.Fated.{AreItsSteps}
 use Rattle.mg_jobs.specs.Own.{IsHeard}
 use Rattle.mg_jobs.specs.PutLimits.{HasFewIndexes, IsExcusedPut, IsValidPut}
@@ -231,8 +231,15 @@ module _ (history : List Kept) (fates : List Fate) (kept : AreKept 0 fates) (cal
         let s = stands.same place call p found placed in
         record { found = found; placed = placed; there = there; same_command = ap (λ (x : Step). fields x.command) (same_some step s.0 (sym there ∙ s.1)) ∙ ap fields s.2 }
 
+    -- it asks for more of a cursor, in a namespace that may be
+    record IsNamedMore (command : Fields) : Type 0 where
+      id : ℤ
+      at : Space
+      named : IsNamed at
+      command_is : command ≡ next_command id at no_manner
+
     -- each is fine but a getMore
-    kind_fine : (place : ℕ) (call : Call) (p : ℕ) (step : Step) → StepOf place call p step → PutKind calls t place (fields call.command) → IsGetMore (fields step.command) ⊎ IsFine step
+    kind_fine : (place : ℕ) (call : Call) (p : ℕ) (step : Step) → StepOf place call p step → PutKind calls t place (fields call.command) → IsNamedMore (fields step.command) ⊎ IsFine step
     kind_fine place call p step s (finds is) = inr (find_fine p step s.there (s.same_command ∙ is))
     kind_fine place call p step s (creates at is) = inr (creation_fine at p step s.there (s.same_command ∙ is))
     kind_fine place call p step s (lists at before first found creates_it less is) =
@@ -241,7 +248,7 @@ module _ (history : List Kept) (fates : List Fate) (kept : AreKept 0 fates) (cal
         let x = stands.same before first q found placed in
         let rises = stands.rising before place first call q p less found s.found placed s.placed in
         inr (listing_fine at p step s.there (there_behind at q x.0 x.1 (ap fields x.2 ∙ creates_it) p step s.there rises) (s.same_command ∙ is))
-    kind_fine place call p step s (reads_on more) = inl (subst IsGetMore (sym s.same_command) more)
+    kind_fine place call p step s (reads_on id at named is) = inl (record { id = id; at = at; named = named; command_is = s.same_command ∙ is })
     kind_fine place call p step s (indexes at is) = inr (index_fine at p step s.there (s.same_command ∙ is))
     kind_fine place call p step s (into_chunks documents) = inr (insert_fine (chunks_space t.at) documents.0 p step s.there may.chunks_short (s.same_command ∙ documents.1))
     kind_fine place call p step s (inserts_record moment is) = inr (insert_fine (files_space t.at) (its_record t moment ∷ []) p step s.there may.files_short (s.same_command ∙ is))
@@ -254,7 +261,7 @@ module _ (history : List Kept) (fates : List Fate) (kept : AreKept 0 fates) (cal
       -- none of its steps opens a cursor
       opens_none : (place : ℕ) (call : Call) (p : ℕ) (step : Step) → IsOf its place → StepOf place call p step → (x : ℤ) → OpensId (told_at step) x → ⊥
       opens_none place call p step of s x opens = elim (kind_fine place call p step s (kinds place call of s.found)) [
-        | inl more ↦ never_opens (state_at p) (grown (state_at p) step.made) step.made (asked step.command) (told_at step) x (next_reads step.command more.0 more.1 more.2) (may_at steps p step legal s.there).tells opens
+        | inl more ↦ never_opens (state_at p) (grown (state_at p) step.made) step.made (asked step.command) (told_at step) x (next_reads step.command more.id more.at more.command_is) (may_at steps p step legal s.there).tells opens
         | inr fine ↦ fine.opens_none x opens
       ]
 
@@ -273,14 +280,14 @@ module _ (history : List Kept) (fates : List Fate) (kept : AreKept 0 fates) (cal
           let mine = names steps legal stands place p step of (record { call = call; found = s.found; placed = s.placed; there = s.there }) id named given.at first.0 x.0 (record { call = given.call; found = given.found; placed = first.1; there = x.1 }) less opens in
           opens_none given.at given.call first.0 x.0 mine (step_of given.at given.call first.0 x.0 given.found first.1 x.1) id opens
 
-      -- None of them is refused but a getMore of a namespace that no server takes.
-      pub put_taken : NoneRefusedBut IsUnnamedMore c i calls steps
+      -- None of them is refused, but the creation of a collection that is there.
+      pub put_taken : NoneRefused c i calls steps
       put_taken position step own_step at =
           let by = call_at calls its position own_step in
           let s = step_of by.place by.call position step by.there by.position_is at in
           elim (kind_fine by.place by.call position step s (kinds by.place by.call by.of by.there)) [
-            | inl more ↦ inl (more.0, more.1, more.2, λ named. never_asks by.place by.call position step by.of s more.0 more.1 (asks_for_more_plainly step.command more.0 more.1 no_manner named more.2))
-            | inr fine ↦ inr fine.taken
+            | inl more ↦ absurd (never_asks by.place by.call position step by.of s more.id more.at (asks_for_more_plainly step.command more.id more.at no_manner more.named more.command_is))
+            | inr fine ↦ fine.taken
           ]
 
   module _ (c : Course) (i : ℕ) (wire : ℤ) (n : ℕ) (places : List ℕ) (sent : AllSentIn c i n places) (t : PutTask) (may : HasShortFiles t.at) where

@@ -9,7 +9,7 @@ use Rattle.mg_server.specs.Commands.{Asked, Batch, Told, asked, asks_more, asks_
 use Rattle.mg_server.specs.History.{Step, step_after, told_at}
 use Rattle.mg_link.specs.Namespace.{Space}
 use Rattle.mg_server.specs.Query.{Query, result, read, through}
-use Rattle.mg_server.specs.Rules.{Answer, Request, and_then, answer, answer_more, answer_of, answer_query, answer_with, bad_request, batch_of_query, default_batch, find, find_request, first_held, fitting, id_while, map_ok, more, named_space, no_such_collection, or_code, query_id, query_more_reply, query_reply, query_space, request_of}
+use Rattle.mg_server.specs.Rules.{Answer, Request, answer, answer_more, answer_of, answer_query, answer_with, bad_request, batch_of_query, default_batch, find, find_request, first_held, fitting, id_while, map_ok, more, named_space, no_such_collection, or_code, query_id, query_more_reply, query_reply, query_space, request_of, where_ok}
 use Rattle.mg_server.specs.State.{Cursor, State, give, put_cursor, query}
 use Rattle.mg_server.specs.Step.{Made, effect, grown, moved, queried_at}
 use Rattle.mg_server.proofs.Collections.{is_space_self}
@@ -68,7 +68,7 @@ of_batch reply c batch says there = by_documents (documents_in c.batch) (sym (ba
 -- ---- a query
 
 answer_by : (id : ℤ) (q : Query) (ds : List Fields) (o : Option (List Fields)) → option_and_then (through q.stages) o ≡ Some ds
-    → and_then (λ ds. map_ok (λ found. answer_with [] (query_reply id q found)) (or_code bad_request (through q.stages ds))) (or_code no_such_collection o) ≡ Ok (answer_with [] (query_reply id q ds))
+    → where_ok (λ ds. map_ok (λ found. answer_with [] (query_reply id q found)) (or_code bad_request (through q.stages ds))) (or_code no_such_collection o) ≡ Ok (answer_with [] (query_reply id q ds))
 answer_by id q ds None h = absurd cc
 answer_by id q ds (Some xs) h = ap (λ (r : Option (List Fields)). map_ok (λ found. answer_with [] (query_reply id q found)) (or_code bad_request r)) h
 
@@ -91,7 +91,7 @@ module _ (s : State) (given : ℕ) (q : Query) (ds : List Fields) (found : resul
   unfolding answer_of
   find_answered fs reads =
       let small = query_small first_id (query_space q.source) (codes "firstBatch") first_batch (omega arith) short.db_fits short.coll_fits first_modest in
-      ap (λ (r : Result Request ℤ). fitting (and_then (answer s (pos (suc given))) r)) reads
+      ap (λ (r : Result Request ℤ). fitting (where_ok (answer s (pos (suc given))) r)) reads
       ∙ ap fitting (query_answered s (pos (suc given)) q ds found)
       ∙ fits (answer_with [] (query_reply (pos (suc given)) q ds)) small
 
@@ -142,7 +142,7 @@ module _ (s : State) (given : ℕ) (x : ℤ) (space : Space) (left : List Fields
   more_answered fs reads =
       let a : Answer = answer_with [] (query_more_reply x space left 101) in
       let small = query_small next_id space (codes "nextBatch") next_batch (omega arith) short.db_fits short.coll_fits (batch_modest 101 left stored) in
-      ap (λ (r : Result Request ℤ). fitting (and_then (answer s (pos (suc given))) r)) reads
+      ap (λ (r : Result Request ℤ). fitting (where_ok (answer s (pos (suc given))) r)) reads
       ∙ ap (λ (o : Option Cursor). fitting (answer_more s x space 101 o)) stood
       ∙ ap (λ (b : Bool). fitting (if b then Ok a else Err bad_request)) (is_space_self space)
       ∙ fits a small

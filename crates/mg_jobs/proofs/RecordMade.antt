@@ -1,5 +1,5 @@
 -- A record that stands, of a file that only one put touches, was inserted by this put.
-use Rattle.std.proofs.Common.{◌≡◌, ◌⊎◌, ◌<◌, [], ℕ, zero, suc, ℤ, List, Some, None, length, take, refl, sym, ap, ◌∙◌, subst, inl, inr, arith}
+use Rattle.std.proofs.Common.{◌≡◌, ◌⊎◌, ◌<◌, ◌≤◌, [], ℕ, zero, suc, ℤ, List, Some, None, length, take, refl, sym, ap, ◌∙◌, subst, inl, inr, arith}
 use Rattle.std.specs.Prelude.{codes, slice_get}
 use Rattle.std.proofs.lemmas.Bool.{cases_lt}
 use Rattle.std.proofs.lemmas.List.{take_all}
@@ -111,15 +111,14 @@ module _ (supply : Supply) (t : PutTask) (files : IsNamed (files_space t.at)) (c
         by_command own (ap (λ (y : Step). y.command) (sym same) ∙ x.2) (sends.each own.done own.place own.call own.sent own.there)
 
     -- any step
-    by_step : position < length history → InsertedOr position
-    by_step within = elim (leave position step (omega arith) within found) [
+    by_step : leave.from ≤ position → position < length history → InsertedOr position
+    by_step low within = elim (leave.leave position step low within found) [
       | inl own ↦ by_own own
       | inr leaves ↦ stay_at (ap (λ (f : File). f.records) leaves)
     ]
 
-  none_at_first : records_at 0 ≡ []
-  unfolding file_of state_after
-  none_at_first = refl
+  none_at_first : records_at leave.from ≡ []
+  none_at_first = ap (λ (f : File). f.records) leave.nothing
 
   -- it was inserted in one of so many steps, or in none
   in_step : (n : ℕ) → InsertedOr n → ((records_at n ≡ [] → ⊥) → RecordsBefore c j calls history t n) → (records_at (suc n) ≡ [] → ⊥) → RecordsBefore c j calls history t (suc n)
@@ -129,13 +128,19 @@ module _ (supply : Supply) (t : PutTask) (files : IsNamed (files_space t.at)) (c
       let less = r.before in
       record { position = r.position; before = omega (arith, less); recorded = r.recorded }
 
-  -- A record that stands was inserted by the put before.
-  pub inserted_before : (n : ℕ) → (records_at n ≡ [] → ⊥) → RecordsBefore c j calls history t n
-  inserted_before zero some = absurd (some none_at_first)
-  inserted_before (suc n) some = in_step n at_step (λ before. inserted_before n before) some
+  none_there : (n : ℕ) → leave.from ≡ n → records_at n ≡ []
+  none_there n is = subst (λ (m : ℕ). records_at m ≡ []) is none_at_first
+
+  -- A record that stands while nobody else touches the file was inserted by the put before.
+  pub inserted_before : (n : ℕ) → leave.from ≤ n → (records_at n ≡ [] → ⊥) → RecordsBefore c j calls history t n
+  inserted_before zero low some = absurd (some (none_there zero (omega (arith, low))))
+  inserted_before (suc n) low some = elim (cases_lt n leave.from) [
+    | inl short ↦ absurd (some (none_there (suc n) (omega (arith, low, short))))
+    | inr behind ↦ in_step n (at_step behind) (λ before. inserted_before n behind before) some
+  ]
     where
-      at_step : InsertedOr n
-      at_step = elim (cases_lt n (length history)) [
-        | inl within ↦ (let there = get_there history n within in by_step n there.0 there.1 within)
+      at_step : leave.from ≤ n → InsertedOr n
+      at_step low = elim (cases_lt n (length history)) [
+        | inl within ↦ (let there = get_there history n within in by_step n there.0 there.1 low within)
         | inr beyond ↦ inr (ap (λ (h : List Step). (file_of (state_of h) t.at t.id).records) (take_all (suc n) history (omega (arith, beyond)) ∙ sym (take_all n history beyond)))
       ]

@@ -66,6 +66,7 @@ use Rattle.mg_jobs.specs.PutLimits.{CannotPut, HasFewIndexes, IsExcusedPut, IsVa
 use Rattle.mg_players.specs.PutSends.{chunks_removal, of_check, reads_on, record_insert}
 use Rattle.mg_players.specs.Puts.{PutTask, Supply, put_bucket, put_of}
 use Rattle.mg_players.specs.Sends.{IsPutCommand, MaySend, SendsOnly, asks, checks, inserts, kills, opens, records, removes, resumes}
+use Rattle.mg_players.proofs.CallPlaces.{opens_falls}
 use Rattle.mg_jobs.proofs.Added.{AreModestEntries, first_by_rules, kept_modest}
 use Rattle.mg_jobs.proofs.Mild.{IsMildCommand, IsQuiet, creates_mild, deletes_mild, finds_mild, indexes_mild, inserts_mild, lists_mild, quiet_mild}
 use Rattle.mg_jobs.proofs.OpeningTaken.{fits_size, opening_taken}
@@ -271,7 +272,7 @@ module _ (history : List Kept) (fates : List Fate) (kept : AreKept 0 fates) (cal
         opens_well (ended.Gave x) closed said token alive k last well caused played turns may = tt
         opens_well (ended.Failed e) closed said token alive k last well (inl room) played turns may = full e room.0
         opens_well (ended.Failed e) closed said token alive k last well (inr f) played turns may =
-            well (answered (none_refused_opening c i on start filter batch wire f.args f.args_are (subst (λ (places : List ℕ). FallsAt (IsOpening f.args wire None) calls 3 places 1) f.whole f.opens) small may))
+            well (answered (none_refused_opening c i on start filter batch wire f.args f.args_are (subst (λ (places : List ℕ). FallsAt (IsOpening f.args wire None) calls 3 places 1) f.whole (opens_falls calls wire f.args f.places f.opens)) small may))
 
       -- a get, whose steps were not refused where its collections have short names
       get_ends : (g : GetTask) (end : Ended (Unit {0})) → ((by : AnswersWell c i calls) → GetWell (excuses ⊥) c i calls by.history g end) → (HasShortFiles g.at → (bytes : List ℕ) → StandsWhole c i calls (steps_of history) g bytes → NoneRefused c i calls (steps_of history))

@@ -8,7 +8,7 @@ use Rattle.mg_bson.specs.Bytes.{bytes, fields_bytes, items_bytes, levels, le32, 
 use Rattle.mg_bson.specs.Literal.{◌⇒◌⨾◌, empty}
 use Rattle.mg_link.specs.Namespace.{as_collection, as_database, has_dot, Space}
 use Rattle.mg_server.specs.Commands.{documents_in}
-use Rattle.mg_server.specs.Rules.{Answer, Inserted, Request, accept, and_then, bad_request, errors_field, refused, answer, answer_insert, answer_of, as_name, choose, fitting, insert, insert_entry, insert_request, inserting, max_name, max_reply, named_space, no_more, request_of, with_document, with_error, without_dot, write_error}
+use Rattle.mg_server.specs.Rules.{Answer, Inserted, Request, accept, where_ok, bad_request, errors_field, refused, answer, answer_insert, answer_of, as_name, choose, fitting, insert, insert_entry, insert_request, inserting, max_name, max_reply, named_space, no_more, request_of, with_document, with_error, without_dot, write_error}
 use Rattle.mg_server.specs.State.{State}
 use Rattle.mg_server.specs.Step.{documents_of}
 use Rattle.mg_options.specs.Printing.{listed}
@@ -119,7 +119,7 @@ read_so : (s : State) (id : ℤ) (fs : Fields) (space : Space) (ds : List Fields
 unfolding answer_of
 read_so s id fs space ds reads =
     let i = inserting space true 0 (length s.changes) (documents_of s space) ds in
-    ap (λ (r : Result Request ℤ). fitting (and_then (answer s id) r)) reads ∙ fits (answer_insert s space ds true) (small (length i.documents) i.errors (few_listed space 0 (length s.changes) (documents_of s space) ds))
+    ap (λ (r : Result Request ℤ). fitting (where_ok (answer s id) r)) reads ∙ fits (answer_insert s space ds true) (small (length i.documents) i.errors (few_listed space 0 (length s.changes) (documents_of s space) ds))
 
 -- an insert of these names is answered
 pub inserts_so : (s : State) (id : ℤ) (at : Space) (ds : List Fields) → HasShortNames at → answer_of s id (insert_command at ds) ≡ answer_insert s at ds true

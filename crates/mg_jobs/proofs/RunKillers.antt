@@ -40,6 +40,7 @@ use Rattle.mg_players.specs.Progress.{FollowPlayed, IsPlayed, pends_last, turns_
 use Rattle.mg_players.specs.PutSends.{chunks_removal, of_check, reads_on, record_insert}
 use Rattle.mg_players.specs.Puts.{PutTask, Supply, put_bucket, put_of}
 use Rattle.mg_players.specs.Sends.{IsPutCommand, MaySend, SendsOnly, checks, inserts, records, removes}
+use Rattle.mg_players.proofs.CallPlaces.{call_falls, opens_falls}
 use Rattle.mg_jobs.proofs.Identified.{StandsWell, opened_well}
 use Rattle.mg_jobs.proofs.Killers.{IsSparing, creates_spare, deletes_spare, finds_spare, indexes_spare, inserts_spare, lists_spare, next_spares, resuming_spares}
 use Rattle.mg_jobs.proofs.Openers.{IsOpenedIn, call_mine, calls_mine, honest_all, last_mine, opened_place}
@@ -100,7 +101,7 @@ module _ (history : List Step) (calls : List Call) (legal : IsLegal history) (st
 
     end_kills : {A : Type 0} (closed : Ended A) (answered : ℕ) (last : ClientStream) (places : List ℕ) → ((p : ℕ) → IsOf places p → IsOf its p) → StandsWell (IsOpenedIn calls history its) AreIts last → CloseCaused awaited c i count answered calls wire last places closed → (place : ℕ) → IsOf places place → Kills place
     end_kills ended.Unfinished answered last places sub well (at_rest pended less none) place of = absurd (subst (λ (l : List ℕ). IsOf l place) none of)
-    end_kills ended.Unfinished answered last places sub well (in_call pended less sent waits falls) place of = call_mine history calls legal stands wire AreIts its last places 0 sub well falls place of
+    end_kills ended.Unfinished answered last places sub well (in_call pended less sent waits sends) place of = call_mine history calls legal stands wire AreIts its last places 0 sub well (call_falls calls wire last places sends) place of
     end_kills ended.Unfinished answered last places sub well (in_closing pended all sent waits falls) place of = last_mine history calls legal stands wire AreIts its last places well falls place of
     end_kills (ended.Gave x) answered last places sub well close place of = last_mine history calls legal stands wire AreIts its last places well close.kills place of
     end_kills (ended.Failed e) answered last places sub well close place of = last_mine history calls legal stands wire AreIts its last places well close.kills place of
@@ -116,7 +117,7 @@ module _ (history : List Step) (calls : List Call) (legal : IsLegal history) (st
         let first = opened_well (IsOpenedIn calls history its) AreIts (sent_at a.places calls wire) (honest_all history calls legal stands wire AreIts its a.places sub_first) o.args o.args_are a.first a.opened in
         let called = calls_mine history calls legal stands wire AreIts its a.first a.owns said o.last a.answered sub_owns first in
         elim (of_either a.places rest place (subst (λ (l : List ℕ). IsOf l place) (sym o.whole) of)) [
-          | inl opening ↦ λ call there x kills. absurd (opening_spares calls wire o.args a.places a.opens place call x opening there kills)
+          | inl opening ↦ λ call there x kills. absurd (opening_spares calls wire o.args a.places (opens_falls calls wire o.args a.places a.opens) place call x opening there kills)
           | inr later ↦ elim (of_either (concat a.owns) o.now place later) [
             | inl here ↦ called.1 place here
             | inr now ↦ end_kills closed (length said) o.last o.now sub_now called.0 o.close place now
@@ -126,11 +127,11 @@ module _ (history : List Step) (calls : List Call) (legal : IsLegal history) (st
     follow_kills : (opened closed : Ended (Unit {0})) (said : List Answer) (token : Option Tree) (alive : Bool) (k : ℕ) → k ≡ turns_done i c.order c.notes → (last : Bool) → FollowCaused awaited c i count calls wire on start filter batch opened said token alive closed → FollowPlayed opened closed count (length said) alive k last → KillsItsOwn
     follow_kills ended.Unfinished closed said token alive k done last caused played place call x of there kills =
         let w = caused (sent_pends c i place (sym done ∙ played.0) of) in
-        absurd (opening_spares calls wire w.args its (subst (λ (l : List ℕ). FallsAt (IsOpening w.args wire None) calls 3 l 1) w.whole w.opens) place call x of there kills)
+        absurd (opening_spares calls wire w.args its (subst (λ (l : List ℕ). FallsAt (IsOpening w.args wire None) calls 3 l 1) w.whole (opens_falls calls wire w.args w.places w.opens)) place call x of there kills)
     follow_kills (ended.Gave y) closed said token alive k done last caused played place call x of there kills = open_kills said token alive closed caused place of call there x kills
     follow_kills (ended.Failed e) closed said token alive k done last (inl room) played place call x of there kills = absurd (subst (λ (l : List ℕ). IsOf l place) room.1 of)
     follow_kills (ended.Failed e) closed said token alive k done last (inr f) played place call x of there kills =
-        absurd (opening_spares calls wire f.args its (subst (λ (l : List ℕ). FallsAt (IsOpening f.args wire None) calls 3 l 1) f.whole f.opens) place call x of there kills)
+        absurd (opening_spares calls wire f.args its (subst (λ (l : List ℕ). FallsAt (IsOpening f.args wire None) calls 3 l 1) f.whole (opens_falls calls wire f.args f.places f.opens)) place call x of there kills)
 
   -- ---- any job
 

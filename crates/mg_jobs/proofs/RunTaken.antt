@@ -76,7 +76,7 @@ insert_sent awaited c i calls wire ns docs (outcome.Put end) why = absurd why
 put_sent : (awaited : Awaited) (c : Course) (i : ℕ) (calls : List Call) (wire : ℤ) (supply : Supply) (t : PutTask) (r : Outcome) → OfPut (λ end. PutEnds awaited c i calls wire supply t end) r → (ever : Past) × SomeSent supply t ever (commands_at calls (places_of c i))
 put_sent awaited c i calls wire supply t (outcome.Put end) why =
     let ever : Past = sent_at (concat why.owns ++ why.places) calls wire in
-    (ever, some_sent supply t ever (sent_at why.places calls wire) (commands_at calls (places_of c i)) end why.sends)
+    (ever, some_sent supply t (length why.owns) ever (sent_at why.places calls wire) (commands_at calls (places_of c i)) end why.sends)
 put_sent awaited c i calls wire supply t (outcome.Insert end) why = absurd why
 put_sent awaited c i calls wire supply t (outcome.Get bytes end) why = absurd why
 put_sent awaited c i calls wire supply t (outcome.Follow opened said token alive closed) why = absurd why

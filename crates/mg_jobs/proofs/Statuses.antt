@@ -4,7 +4,7 @@ use Rattle.std.specs.Prelude.{IfSome, IsSomeAnd}
 use Rattle.std.specs.Io.KnownBytes.{Appends}
 use Rattle.mg_link.specs.Causes.{Rose}
 use Rattle.mg_program.specs.Refusals.{EndingTold, IsRefusalTold, IsScript, ReadMissing, ReadNoScript, ReadTooMuch, is_run}
-use Rattle.mg_program.specs.declared.refusal.Refusal.{Refusal}
+use Rattle.mg_program.specs.declared.refusal.RunRefusal.{RunRefusal}
 use Rattle.mg_program.proofs.Refusals.{bad_refused, fault_refused, long_refused, missing_refused, never_zero, none_refused, not_both, only_usage, refused_short, usage_refused}
 use Rattle.mg_program.proofs.Refusals as refusals
 use Rattle.mg_script.specs.Plan.{Plan}
@@ -18,7 +18,7 @@ use Rattle.mg_jobs.specs.declared.program.Ending.TheVariants as endings
 use Rattle.mg_jobs.proofs.Endings.{decided}
 
 -- a refusal that was told is an ending that was told
-pub refused_told : (refusal : Refusal) (status : ℕ) (taken taken' : Option (List ℕ)) (k k' : ℕ) → IsRefusalTold refusal status taken taken' k k' → IsToldAs (endings.Refused refusal) None status taken taken' k k'
+pub refused_told : (refusal : RunRefusal) (status : ℕ) (taken taken' : Option (List ℕ)) (k k' : ℕ) → IsRefusalTold refusal status taken taken' k k' → IsToldAs (endings.Refused refusal) None status taken taken' k k'
 refused_told refusal status taken taken' k k' (inl t) = inl (refl, t)
 refused_told refusal status taken taken' k k' (inr t) = inr (refl, t)
 

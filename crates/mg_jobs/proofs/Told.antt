@@ -17,13 +17,9 @@ use Rattle.mg_link.proofs.Places.{get_within}
 use Rattle.mg_ops.specs.declared.aggregate.ChangeStreamAggregate.{ChangeStreamAggregate}
 use Rattle.mg_ops.specs.declared.change_stream.WatchArgs.{WatchArgs}
 use Rattle.mg_change.specs.ClientStreams.{ClientStream, stream_ticket, stream_token, token_known}
-use Rattle.mg_change.specs.OpenedStreams.{IsOpening}
-use Rattle.mg_change.specs.Sent as calling
 use Rattle.mg_change.specs.OpeningView.{opening_of}
-use Rattle.mg_change.specs.Sent.{opening_places}
 use Rattle.mg_change.specs.StreamView.{stream_of}
 use Rattle.mg_change.specs.declared.stream.ChangeStream.{ChangeStream}
-use Rattle.mg_change.proofs.OpenSends.{one_opening}
 use Rattle.mg_change.proofs.Awaiting.{call_awaits, last_awaits}
 use Rattle.mg_change.proofs.Keeping.{sound_any}
 use Rattle.mg_players.proofs.Later.{opening_awaits_plainly}
@@ -60,7 +56,8 @@ use Rattle.mg_players.specs.declared.player.Player.{Player}
 use Rattle.mg_players.specs.declared.player.Player.TheVariants as player
 use Rattle.mg_players.proofs.Apart.{stays, which}
 use Rattle.mg_players.proofs.Knowing.{get_length, know_first, knowing_turn, one_more, owners_first, place_here, place_other, take_next}
-use Rattle.mg_players.proofs.Commands.{call_falls_so, falls_below}
+use Rattle.mg_change.proofs.Calling.{opens_any, sent_any}
+use Rattle.mg_players.proofs.Commands.{falls_below}
 use Rattle.mg_players.proofs.Drawing.{draws_as, id_had, id_own, turn_other}
 use Rattle.mg_jobs.proofs.Identified.{calls_identified, honest_over, opened_well}
 use Rattle.mg_players.proofs.InsertTelling.{ends_of, ends_sent}
@@ -350,7 +347,7 @@ module _ (awaited : Awaited) (c : Course) (i : ℕ) (calls : List Call) (wire : 
   rests_or_waits : (count : ℕ) (b : Bool) → pended_last ≡ b → (stream : ChangeStream Fields) (told : FollowTold awaited calls wire c i (stage.Open stream) (kept job) at) → IsOpen count (came job) (turns_done i c.order c.notes) → HoldsIf b (stream_ticket (stream_of stream)) → OpenStands awaited c i count (length job.answers.items) calls wire told.tells.0 told.places.now
   rests_or_waits count false is stream told so holds = at_rest is (omega (arith, so.rest, so.more)) (told.tells.4.rests (none_if (stream_ticket (stream_of stream)) false (sym holds) refl))
   rests_or_waits count true is stream told so holds =
-      in_call is (omega (arith, so.rest, so.more)) told.sent.now (call_awaits awaited (sent_at told.places.now calls wire) true told.tells.0 (stream_of stream) (sound_any true (stream_of stream) told.tells.3) told.tells.2 holds) (call_falls_so calls wire told.tells.0 told.places.now (calling.places (stream_of stream)) told.tells.4.falls)
+      in_call is (omega (arith, so.rest, so.more)) told.sent.now (call_awaits awaited (sent_at told.places.now calls wire) true told.tells.0 (stream_of stream) (sound_any true (stream_of stream) told.tells.3) told.tells.2 holds) (sent_any awaited calls wire told.tells.0 told.places.now (stream_of stream).cursor (stream_of stream).doing told.tells.4.sent)
 
   over_not_unfinished : (count : ℕ) → FollowAt count stage.Ended (came job) (turns_done i c.order c.notes) pended_last → IsUnfinished job.opened → ⊥
   over_not_unfinished count (inl never, newest) is = failed_not_unfinished job.opened never.opened is
@@ -366,7 +363,7 @@ module _ (awaited : Awaited) (c : Course) (i : ℕ) (calls : List Call) (wire : 
         places = told.places.now;
         sent = told.sent.now;
         whole = sym (only_now told.places told.tells.0.2 told.tells.0.0) ∙ told.sent.whole;
-        opens = falls_below (IsOpening (opening_of opening).args wire None) calls 3 told.places.now (opening_places (opening_of opening).sending) 1 (one_opening (opening_of opening).sending) told.tells.4;
+        opens = opens_any awaited calls wire (opening_of opening).args (opening_of opening).sending told.places.now told.tells.4;
         waits = opening_awaits_plainly awaited (sent_at told.places.now calls wire) (opening_of opening).args (opening_of opening).sending told.tells.2.sound told.tells.3 (at_stage.1 ∙ pended);
       })
   stage_caused (stage.Open stream) count is at_stage told =
@@ -459,7 +456,7 @@ outcome_of_job supply ts awaited c i calls wire (player.Follow job) r o at of is
     (follow_outcome awaited c i calls wire job at o plays t count (turns_done i c.order c.notes) (pends_last i c.order c.notes) is_at o plays, stage_caused awaited c i calls wire job at o plays t job.stage count refl is_at t, tt)
 outcome_of_job supply ts awaited c i calls wire (player.Put job) r o at of is_at plays told =
     let mine : Supply = supply_of supply ts c.order i in
-    let ends_so = put_outcome awaited c i calls wire mine (writes job.what) told.places job.stage (length (pieces job.what.pieces.now)) job.done (length job.what.pieces.now) (turns_done i c.order c.notes) told.tells told.sent is_at in (
+    let ends_so = put_outcome awaited c i calls wire mine (writes job.what) told.places job.stage job.done (length job.what.pieces.now) told.tells told.sent is_at in (
       tt,
       subst (λ (x : Outcome). OutcomeCaused awaited c i calls wire mine (as_sent supply.ids ts c.order i (task_of (player.Put job))) x) (sym of) ends_so,
       subst (λ (x : Outcome). OutcomeFiled c i calls (task_of (player.Put job)) x) (sym of) (put_filed awaited c i (number_of (player.Put job)) calls wire mine (writes job.what) told.places job.done job.stage told.tells told.sent ends_so),

@@ -13,7 +13,7 @@ use Rattle.mg_server.specs.Commands.{Asked, Told, asked, asks_create, asks_delet
 use Rattle.mg_server.specs.History.{Step, step_after, told_at}
 use Rattle.mg_link.specs.Namespace.{Space}
 use Rattle.mg_server.specs.Prompt.{AnswersAtOnce, EndsByInvalidate, IsRefused}
-use Rattle.mg_server.specs.Rules.{Answer, Request, aggregate_request, and_then, answer, answer_more, answer_of, answer_with, bad_request, create_collection, create_indexes, create_request, delete, delete_request, drop_collection, drop_request, find, find_request, fitting, indexes_request, insert, insert_request, is_watch_of, kill, kill_request, list_collections_request, list_indexes_request, max_reply, more, more_reply, more_request, or_code, refusal, refused, request_of, size_of, token_of, unknown_command, update, update_request, watch, batch_events, batch_id, batch_place}
+use Rattle.mg_server.specs.Rules.{Answer, Request, aggregate_request, where_ok, answer, answer_more, answer_of, answer_with, bad_request, create_collection, create_indexes, create_request, delete, delete_request, drop_collection, drop_request, find, find_request, fitting, indexes_request, insert, insert_request, is_watch_of, kill, kill_request, list_collections_request, list_indexes_request, max_reply, more, more_reply, more_request, or_code, refusal, refused, request_of, size_of, token_of, unknown_command, update, update_request, watch, batch_events, batch_id, batch_place}
 use Rattle.mg_server.specs.Standing.{Names, OpensId}
 use Rattle.mg_server.specs.State.{Cursor, Entry, Start, State, Watch, between, give, is_invalidate, put_cursor, query, seen_between, sees, watching}
 use Rattle.mg_server.specs.Step.{IsNamed, May, MayTell, effect, ends_cursor, grown, moved, watching_at}
@@ -139,7 +139,7 @@ module _ (s : State) (x : ℤ) (w : Watch) (from : ℕ) (stood : s.cursors x ≡
   -- the rules' answer to one
   pub more_answer : (id : ℤ) (fs : Fields) (space : Space) (size : Option ℕ) → request_of fs ≡ Ok (more x space size) → answer_of s id fs ≡ fitting (if is_watch_of space w then Ok (answer_with [] (more_reply s x space w from (size_of size))) else Err bad_request)
   unfolding answer_of
-  more_answer id fs space size reads = ap (λ (r : Result Request ℤ). fitting (and_then (answer s id) r)) reads ∙ ap (λ (o : Option Cursor). fitting (answer_more s x space (size_of size) o)) stood
+  more_answer id fs space size reads = ap (λ (r : Result Request ℤ). fitting (where_ok (answer s id) r)) reads ∙ ap (λ (o : Option Cursor). fitting (answer_more s x space (size_of size) o)) stood
 
   more_refused : (id : ℤ) (command reply : List ℕ) (space : Space) (size : Option ℕ) (code : ℤ) (labels : List (List ℕ)) → request_of (fields command) ≡ Ok (more x space size) → fields reply ≡ (answer_of s id (fields command)).reply → told (asked command) reply ≡ refuses code labels → ends_cursor code ≡ false
   more_refused id command reply space size code labels reads read says =
@@ -252,7 +252,7 @@ module _ (s : State) (step : Step) (x : ℤ) (w : Watch) (may : May s (asked ste
     unfolding answer_of
     read_stays id (Err code) reads read spared =
         refused_stays code []
-        (told_reads (asked step.command) step.reply (refusal code []) (read ∙ ap (λ (r : Result Request ℤ). (fitting (and_then (answer s id) r)).reply) reads) ∙ refusal_tells (asked step.command) code [])
+        (told_reads (asked step.command) step.reply (refusal code []) (read ∙ ap (λ (r : Result Request ℤ). (fitting (where_ok (answer s id) r)).reply) reads) ∙ refusal_tells (asked step.command) code [])
         (subst EndsNone reads (read_ends_none (fields step.command)))
     read_stays id (Ok (insert space ds ordered)) reads read spared = not_named (insert space ds ordered) reads (λ names. names)
     read_stays id (Ok (find q)) reads read spared = not_named (find q) reads (λ names. names)

@@ -9,7 +9,7 @@ use Rattle.mg_bson.specs.Raw.{fields}
 use Rattle.mg_server.specs.Commands.{Asked, asked, asks_kill, asks_more, gave, killed, told}
 use Rattle.mg_link.specs.Namespace.{Space, Target, database, collection, cluster}
 use Rattle.mg_server.specs.Prompt.{IsRefused}
-use Rattle.mg_server.specs.Rules.{Answer, Request, and_then, answer, answer_of, answer_with, as_name, bad_request, batch_events, batch_id, batch_place, fitting, is_killed, is_watch_of, kill, kill_request, killed_reply, more, more_reply, more_request, named_space, request_of, same_answer, size_of, some_size, token_of, watch_space, without_dot}
+use Rattle.mg_server.specs.Rules.{Answer, Request, answer, answer_of, answer_with, as_name, bad_request, batch_events, batch_id, batch_place, fitting, is_killed, is_watch_of, kill, kill_request, killed_reply, more, more_reply, more_request, named_space, request_of, same_answer, size_of, some_size, token_of, watch_space, where_ok, without_dot}
 use Rattle.mg_server.specs.State.{State, Watch}
 use Rattle.mg_server.proofs.Collections.{is_space_self}
 use Rattle.mg_server.proofs.Filling.{is_full_batch}
@@ -147,7 +147,7 @@ killed_small s (Some id) = small_by (is_killed s [] (pos id)) id
 pub kill_answered : (s : State) (given : ℕ) (fs : Fields) (space : Space) (o : Option ℕ) → TakesSpace space → fs ≡ kill_command space (few_ids o) → answer_of s (pos (suc given)) fs ≡ answer_with [] (killed_reply s (few_ids o))
 unfolding answer_of
 kill_answered s given fs space o t is =
-    ap (λ (r : Result Request ℤ). fitting (and_then (answer s (pos (suc given))) r)) (ap request_of is ∙ kill_reads space o t) ∙ fits (answer_with [] (killed_reply s (few_ids o))) (killed_small s o)
+    ap (λ (r : Result Request ℤ). fitting (where_ok (answer s (pos (suc given))) r)) (ap request_of is ∙ kill_reads space o t) ∙ fits (answer_with [] (killed_reply s (few_ids o))) (killed_small s o)
 
 -- it is not refused
 pub kill_taken : (s : State) (given : ℕ) (command reply : List ℕ) (space : Space) (o : Option ℕ) → TakesSpace space → fields command ≡ kill_command space (few_ids o) → fields reply ≡ (answer_of s (pos (suc given)) (fields command)).reply → IsRefused (told (asked command) reply) → ⊥

@@ -19,7 +19,6 @@ use Rattle.mg_server.specs.Step.{documents_of}
 use Rattle.mg_link.specs.declared.error.Error.{Error}
 use Rattle.mg_link.specs.declared.error.ErrorKind.TheVariants as kind
 use Rattle.mg_ops.specs.Bodies.{insert_command}
-use Rattle.mg_ops.specs.Cursors.{next_command}
 use Rattle.mg_ops.specs.Failing.{CannotBeSent}
 use Rattle.mg_ops.specs.Limits.{PassesLimit, SizePasses, SomePassLimit}
 use Rattle.mg_ops.specs.Naming.{IsNamed}
@@ -33,7 +32,7 @@ use Rattle.mg_players.specs.Drawing.{as_sent}
 use Rattle.mg_players.specs.Files.{IsFirstStepOf, IsLastStepOf, OthersLeaveFrom}
 use Rattle.mg_players.specs.Follows.{IsArgsFor, IsWatch}
 use Rattle.mg_players.specs.Kinds.{OfFollow, OfGet, OfInsert, OfPut}
-use Rattle.mg_players.specs.Gets.{GetTask, IsGetCommand, chunks_find, get_of, more_chunks, no_manner, record_find}
+use Rattle.mg_players.specs.Gets.{GetTask, IsGetCommand, chunks_find, get_of, more_chunks, record_find}
 use Rattle.mg_players.specs.Headline.{GetGave}
 use Rattle.mg_ops.specs.InsertCauses.{IsPiece}
 use Rattle.mg_jobs.specs.Own.{IsHeard, IsHeardBefore, IsOwnCommand, IsOwnCursor}
@@ -90,14 +89,6 @@ IsTaken command reply = Unit {0}
 -- none of the steps of job i was refused in this history, but the creation of a collection that is there
 abbrev pub NoneRefused : Course → ℕ → List Call → List Step → Type 0
 NoneRefused c i calls history = (position : ℕ) (step : Step) → Contains (positions_at calls (places_of c i)) position → slice_get history position ≡ Some step → IsTaken (asked step.command) (told_at step)
-
--- none of the steps of job i but such commands was refused in this history, but the creation of a collection that is there
-abbrev pub NoneRefusedBut : (Fields → Type 0) → Course → ℕ → List Call → List Step → Type 0
-NoneRefusedBut such c i calls history = (position : ℕ) (step : Step) → Contains (positions_at calls (places_of c i)) position → slice_get history position ≡ Some step → such (fields step.command) ⊎ IsTaken (asked step.command) (told_at step)
-
--- a getMore of a namespace that no server takes
-abbrev pub IsUnnamedMore : Fields → Type 0
-IsUnnamedMore command = (id : ℤ) × (space : Space) × (command ≡ next_command id space no_manner) × (IsNamed space → ⊥)
 
 -- ---- what an insert comes to
 
@@ -319,12 +310,12 @@ pub record HasShortFiles (at : Bucket) : Type 0 where
   pub files_short : HasShortNames (files_space at)
   pub chunks_short : HasShortNames (chunks_space at)
 
--- The store of a run refuses none of the steps of an insert into a collection with short names, of a follow that may begin, with a size of batches that may be, and
--- of a get of a file that is whole, from collections with short names; and of a put into such collections none but a getMore of a namespace that no server takes.
+-- The store of a run refuses none of the steps of an insert into a collection with short names, of a follow that may begin, with a size of batches that may be, of a
+-- get of a file that is whole, from collections with short names, and of a put into such collections.
 abbrev pub JobTaken : Course → ℕ → List Call → List Step → Task → Type 0
 JobTaken c i calls history (follow on count start filter batch) = (SizePasses batch → ⊥) → MayBegin c i calls history on start filter → NoneRefused c i calls history
 JobTaken c i calls history (insert ns docs) = HasShortNames ns → NoneRefused c i calls history
-JobTaken c i calls history (put db bucket name id chunk pieces) = HasShortFiles (put_of db bucket name id chunk pieces).at → NoneRefusedBut IsUnnamedMore c i calls history
+JobTaken c i calls history (put db bucket name id chunk pieces) = HasShortFiles (put_of db bucket name id chunk pieces).at → NoneRefused c i calls history
 JobTaken c i calls history (get db bucket id read) = HasShortFiles (get_of db bucket id read).at → (bytes : List ℕ) → StandsWhole c i calls history (get_of db bucket id read) bytes → NoneRefused c i calls history
 
 -- it ends well where its names may be, and where none of its steps was refused and it finds few indexes

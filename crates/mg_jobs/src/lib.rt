@@ -8,7 +8,7 @@ mod program;
 mod run;
 
 pub use mg_link::{MemSink, MemSource, ReadFailed, Sink, Source, StdSink, StdSource, WriteFailed};
-pub use mg_program::Refusal;
+pub use mg_program::RunRefusal;
 pub use mg_script::{
     Answer, DatabaseName, Ended, Job, Outcome, Place, Played, Run, Script, ScriptError, Start,
     Turned, json_text, parse_script, value_from_json,

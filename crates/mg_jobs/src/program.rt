@@ -16,7 +16,7 @@ use crate::fated::{Fated, FatedLink};
 use crate::fates::small_copies;
 use crate::run::run_jobs;
 use mg_link::{CountedIds, Error, Sink, Source};
-use mg_program::{Refusal, read_script, refuse, say};
+use mg_program::{RunRefusal, read_script, refuse, say};
 use mg_script::{Run, Script, text_of};
 use mg_store::{MemLink, Store};
 use std::alloc::Global;
@@ -35,7 +35,7 @@ pub struct Finished {
 #[derive(Drop)]
 pub enum Ending {
     /// No jobs were run, for this reason.
-    Refused(Refusal),
+    Refused(RunRefusal),
     /// The jobs were run, and memory ran out for their text.
     Unprinted(Run),
     /// The jobs were run.
@@ -112,7 +112,7 @@ fn play<S: Source>(alloc: Global, words: &[String], source: &mut S) -> Ending
     };
     match run_script(alloc, script) {
         Ok(run) => Ending::Done(run),
-        Err(_) => Ending::Refused(Refusal::OutOfMemory),
+        Err(_) => Ending::Refused(RunRefusal::OutOfMemory),
     }
 }
 

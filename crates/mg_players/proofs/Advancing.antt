@@ -5,7 +5,7 @@ use Rattle.std.proofs.lemmas.Bool.{cases_eq, eq-eqb, ne_eqb, lt-ltb}
 use Rattle.std.proofs.lemmas.List.{length-map}
 use Rattle.std.proofs.lemmas.Nat.{mul-le}
 use Rattle.mg_link.specs.Acts.{PendsAfter}
-use Rattle.mg_link.specs.Causes.{RoseJust}
+use Rattle.mg_link.specs.Causes.{RoseJust, one_if}
 use Rattle.mg_link.specs.declared.error.Error.{Error}
 use Rattle.mg_link.specs.Moment.{PendsJust}
 use Rattle.mg_bson.specs.Tree.{Fields}
@@ -18,7 +18,7 @@ use Rattle.mg_change.specs.declared.event_poll.EventPoll.{EventPoll}
 use Rattle.mg_change.specs.declared.event_poll.EventPoll.TheVariants as polls
 use Rattle.mg_change.specs.declared.opening.Opening.{Opening}
 use Rattle.mg_change.specs.declared.stream.ChangeStream.{ChangeStream}
-use Rattle.mg_turns.specs.Counts.{RoseIf, one_if}
+use Rattle.mg_turns.specs.Counts.{RoseIf}
 use Rattle.mg_players.specs.Follows.{HasEnded, HasGiven, IsFailed, IsUnfinished}
 use Rattle.mg_players.specs.Gets.{KeepsRead, OpensAs, done_behind, get_end, gets_ended, gets_ticket, room_of}
 use Rattle.mg_players.specs.Headline.{DoTasks, OutcomeOf, OutcomesOf, task_of}
@@ -326,7 +326,7 @@ put_stays calls k last (puts.Begins begun) done count over at = absurd cc
 put_stays calls k last (puts.Goes going) done count over at = absurd cc
 put_stays calls k last (puts.Ended ended.Unfinished) done count over at = absurd at.0
 put_stays calls k last (puts.Ended (ended.Gave n)) done count over at = (omega (arith, at.0), refl)
-put_stays calls k last (puts.Ended (ended.Failed e)) done count over at = (omega (arith, at.0), refl)
+put_stays calls k last (puts.Ended (ended.Failed e)) done count over at = (elim at.0 [ inl first ↦ inl (first.0, (let some = first.1 in omega (arith, some))) | inr more ↦ inr (omega (arith, more)) ], refl)
 
 -- the turn of a job that has ended counts as one that did not pend
 pub over_turns : (p : Player) → has_ended p ≡ true → TurnsBy idle p p
@@ -464,7 +464,7 @@ get_played bytes done k read last (gets.Ended ended.Unfinished) at = absurd at.0
 get_played bytes done k read last (gets.Ended (ended.Gave x)) at = let some = at.0.0 in let more = at.0.1 in (omega (arith, some, more), at.2, fits_later bytes done k read (omega (arith, more)) at.3)
 get_played bytes done k read last (gets.Ended (ended.Failed e)) at = let more = at.0 in (omega (arith, more), at.2, fits_later bytes done k read (omega (arith, more)) at.3)
 
-put_going : (doing : uploads.Doing) (done count : ℕ) → IsPutDoing doing done count → done ≤ count
+pub put_going : (doing : uploads.Doing) (done count : ℕ) → IsPutDoing doing done count → done ≤ count
 put_going uploads.idle done count is = is
 put_going (uploads.busy (uploads.write piece) phase) done count is = omega (arith, is)
 put_going (uploads.busy uploads.close phase) done count is = omega (arith, is)
@@ -477,7 +477,7 @@ put_played calls k last (puts.Begins begun) done count at = absurd at
 put_played calls k last (puts.Goes going) done count at = let few = put_going (upload_of going.upload).doing done count at.2 in omega (arith, few, at.0, at.1)
 put_played calls k last (puts.Ended ended.Unfinished) done count at = absurd at.0
 put_played calls k last (puts.Ended (ended.Gave n)) done count at = at
-put_played calls k last (puts.Ended (ended.Failed e)) done count at = at
+put_played calls k last (puts.Ended (ended.Failed e)) done count at = (elim at.0 [ inl first ↦ first.1 | inr more ↦ omega (arith, more) ], at.1)
 
 played_at : (p : Player) (r : Outcome) (k : ℕ) (last : Bool) → OutcomeOf p r → IsAt (calls_of (task_of p)) p k last → IsPlayed (task_of p) k last r
 played_at (player.Insert job) r k last of at = subst (λ (x : Outcome). IsPlayed (task_of (player.Insert job)) k last x) (sym of) (insert_played k last job.stage at)

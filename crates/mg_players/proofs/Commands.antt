@@ -1,5 +1,5 @@
 -- The commands at places of a log that grows.
-use Rattle.std.proofs.Common.{◌≡◌, ◌+◌, ◌-◌, ◌<◌, ◌≤◌, ℕ, zero, suc, ℤ, true, List, [], ◌∷◌, ◌++◌, length, Some, refl, sym, ap, ap₂, ◌∙◌, subst, append_assoc, arith}
+use Rattle.std.proofs.Common.{◌≡◌, ◌+◌, ◌-◌, ◌<◌, ◌≤◌, ℕ, zero, suc, List, [], ◌∷◌, ◌++◌, length, Some, refl, sym, ap, ap₂, ◌∙◌, subst, append_assoc, arith}
 use Rattle.std.specs.Prelude.{slice_get}
 use Rattle.mg_bson.specs.Tree.{Fields}
 use Rattle.mg_bson.specs.Raw.{fields}
@@ -10,13 +10,9 @@ use Rattle.mg_server.proofs.Calls.{keeps_longer}
 use Rattle.mg_server.proofs.Owners.{same_some}
 use Rattle.mg_link.proofs.Places.{get_some}
 use Rattle.mg_ops.specs.Logs.{AddsJust, commands_sent}
-use Rattle.mg_ops.specs.declared.aggregate.ChangeStreamAggregate.{ChangeStreamAggregate}
-use Rattle.mg_cursor.specs.Client.{ClientCursor}
-use Rattle.mg_change.specs.ClientStreams.{ClientStream}
-use Rattle.mg_change.specs.Sent as calling
-use Rattle.mg_change.specs.Sent.{AsksMoreOf, Falling, IsSentAt, KillsReplaced, ResumesBy, Sent}
+use Rattle.mg_change.specs.Sent.{Falling, Sent}
 use Rattle.mg_change.proofs.Sent.{falling_on}
-use Rattle.mg_players.specs.Causes.{AreInLog, CallFalls, FallsAt, command_at, commands_at, places_from, sent_at, sent_since}
+use Rattle.mg_players.specs.Causes.{AreInLog, FallsAt, command_at, commands_at, places_from, sent_since}
 
 -- ---- places that are below
 
@@ -24,7 +20,7 @@ pub below_more : (places : List ℕ) (n m : ℕ) → n ≤ m → AreInLog n plac
 below_more [] n m room below = tt
 below_more (place ∷ places) n m room below = ((let here : place < n = below.0 in omega (arith, room, here)), below_more places n m room below.1)
 
-below_both : (places more : List ℕ) (n : ℕ) → AreInLog n places → AreInLog n more → AreInLog n (places ++ more)
+pub below_both : (places more : List ℕ) (n : ℕ) → AreInLog n places → AreInLog n more → AreInLog n (places ++ more)
 below_both [] more n below rest = rest
 below_both (place ∷ places) more n below rest = (below.0, below_both places more n below.1 rest)
 
@@ -39,7 +35,7 @@ below_since places from upto room below =
 
 -- ---- their commands
 
-at_both : (calls : List Call) (places more : List ℕ) → commands_at calls (places ++ more) ≡ commands_at calls places ++ commands_at calls more
+pub at_both : (calls : List Call) (places more : List ℕ) → commands_at calls (places ++ more) ≡ commands_at calls places ++ commands_at calls more
 at_both calls [] more = refl
 at_both calls (place ∷ places) more =
     ap (λ (l : List Fields). command_at (slice_get calls place) ++ l) (at_both calls places more) ∙ sym (append_assoc (command_at (slice_get calls place)) (commands_at calls places) (commands_at calls more))
@@ -111,24 +107,3 @@ falling_below may n (command ∷ commands) m k less falls = (falls.0, falls.1, f
 
 pub falls_below : (may : ℕ → Fields → Type 0) (calls : List Call) (n : ℕ) (places : List ℕ) (m k : ℕ) → k ≤ m → FallsAt may calls n places m → FallsAt may calls n places k
 falls_below may calls n places m k less f = record { within = f.within; falling = falling_below may n (commands_at calls places) m k less f.falling }
-
--- how many are left is not said
-pub call_falls_so : (calls : List Call) (wire : ℤ) (at : ClientStream) (places : List ℕ) (m : ℕ) → CallFalls calls wire at places m → CallFalls calls wire at places 0
-call_falls_so calls wire at places m f = falls_below (IsSentAt (KillsReplaced (sent_at places calls wire) true at) at) calls (calling.places at) places m 0 (omega arith) f
-
--- ---- a call in several turns
-
--- what a stream sends in it is told by how it stood as the call began
-module _ (such now : Fields → Type 0) (so : (command : Fields) → now command → such command) (at s : ClientStream) (same : s.aggregate ≡ at.aggregate) where
-  at_began : (place : ℕ) (command : Fields) → (4 ≤ suc place → s.cursor ≡ at.cursor) → IsSentAt now s place command → IsSentAt such at place command
-  at_began zero command cursor h = so command h
-  at_began (suc zero) command cursor h = subst (λ (a : ChangeStreamAggregate). ResumesBy a command) same h
-  at_began (suc (suc zero)) command cursor h = subst (λ (a : ChangeStreamAggregate). ResumesBy a command) same h
-  at_began (suc (suc (suc zero))) command cursor h = subst (λ (c : ClientCursor). AsksMoreOf c command) (cursor (omega arith)) h
-  at_began (suc (suc (suc (suc place)))) command cursor h = absurd h
-
-  pub began_as : (n : ℕ) (commands : List Fields) (m : ℕ) → (4 ≤ n → s.cursor ≡ at.cursor) → Falling (IsSentAt now s) n commands m → Falling (IsSentAt such at) n commands m
-  began_as n [] m cursor falls = falls
-  began_as n (command ∷ commands) m cursor falls =
-      let here : falls.0 < n = falls.1 in
-      (falls.0, falls.1, at_began falls.0 command (λ many. cursor (omega (arith, here, many))) falls.2, began_as falls.0 commands m (λ many. cursor (omega (arith, here, many))) falls.3)

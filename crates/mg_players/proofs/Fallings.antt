@@ -1,26 +1,21 @@
--- The places at which a follow's opening and closing send: the aggregate, and the killing of what is left.
-use Rattle.std.proofs.Common.{true, ◌≡◌, ◌≤◌, ◌++◌, List, ℕ, ℤ, pos, Bool, false, Option, None, sym, ap, ◌∙◌, subst, arith}
+-- The places at which a follow's closing sends: the killing of what is left.
+use Rattle.std.proofs.Common.{◌≡◌, ◌≤◌, ◌++◌, List, ℕ, ℤ, pos, false, sym, ap, ◌∙◌, subst, arith}
 use Rattle.mg_bson.specs.Raw.{fields}
 use Rattle.mg_bson.specs.Tree.{Fields}
 use Rattle.mg_link.specs.Exec.{Runs, Sending}
 use Rattle.mg_link.specs.Link.{Awaited, LogTold}
 use Rattle.mg_link.specs.Namespace.{Space}
-use Rattle.mg_link.specs.Session.{Session}
 use Rattle.mg_link.specs.declared.action.Step.{Step}
 use Rattle.mg_link.specs.declared.action.Step.TheVariants as step
-use Rattle.mg_exec.proofs.Execs.{runs_of}
 use Rattle.mg_ops.specs.Commands.{kill_command}
 use Rattle.mg_cursor.specs.Client.{at_rest}
 use Rattle.mg_cursor.specs.Client as cursors
-use Rattle.mg_change.specs.ClientOpenings.{ClientOpening, HearsOpening, IsSoundOpening, OpensStream, ReadsOpening, RunsOpening, SendsSoundly, first_aggregate}
-use Rattle.mg_change.specs.ClientOpenings as openings
-use Rattle.mg_change.specs.ClientStreams.{ClientStream, IsAggregate, resuming_in}
+use Rattle.mg_change.specs.ClientStreams.{ClientStream}
 use Rattle.mg_change.specs.ClosingCauses.{last_kill}
 use Rattle.mg_change.specs.ClosingStreams.{ClosesStream, ClosingStream, HearsKill, IsSoundClosing, KillsLeft, LandsSoundly, ids_left, kill_left, unless_none}
 use Rattle.mg_change.specs.ClosingStreams as closings
-use Rattle.mg_change.specs.OpenedStreams.{IsOpening}
-use Rattle.mg_change.specs.Sent.{ending_places, resuming_places, opening_places}
-use Rattle.mg_change.proofs.Sent.{Tried, kill_held, kill_sent, resume_sent, resume_waits, tried_below, tried_none}
+use Rattle.mg_change.specs.Sent.{ending_places}
+use Rattle.mg_change.proofs.Sent.{Tried, kill_held, kill_sent, tried_below, tried_none}
 use Rattle.mg_players.specs.Causes.{KillsLast}
 use Rattle.mg_players.specs.Playing.{IsLast}
 use Rattle.mg_players.specs.Telling.{landing_places}
@@ -28,38 +23,6 @@ use Rattle.mg_players.specs.Telling.{landing_places}
 -- nothing is sent
 pub tried_still : (at : ℕ → Fields → Type 0) (log log' : LogTold) (n m : ℕ) → log' ≡ log → m ≤ n → Tried at log log' n m
 tried_still at log log' n m same less = subst (λ (l : LogTold). Tried at log l n m) (sym same) (tried_below at log log n n m less (tried_none at log n))
-
--- how many are left behind a poll of an opening
-abbrev pub opening_left : Step ClientOpening ClientStream → ℕ
-opening_left (step.Pending o) = opening_places o.sending
-opening_left (step.Done s) = 1
-opening_left (step.Failed e) = 1
-
-module _ (old new : Awaited) (log log' : LogTold) (wire : ℤ) (started : Bool) (o : ClientOpening) (r : Step ClientOpening ClientStream) where
-  abbrev OpensDown : ℕ → Step ClientOpening ClientStream → Type 0
-  OpensDown n x = Tried (IsOpening o.args wire None) log log' n (opening_left x)
-
-  opening_read : (n : ℕ) (reply : List ℕ) → Tried (IsOpening o.args wire None) log log' n 1 → ReadsOpening wire o reply r → OpensDown n r
-  opening_read n reply tried (openings.opened out opens_so answer) = subst (OpensDown n) (sym answer) tried
-  opening_read n reply tried (openings.broke e by answer) = subst (OpensDown n) (sym answer) tried
-
-  opening_came : (sending : Sending) → IsOpening o.args wire None 2 (fields sending.command) → (came : Step Sending (List ℕ)) → Runs old new log log' wire sending came → HearsOpening wire o came r → OpensDown (resuming_places sending.stage) r
-  opening_came sending is (step.Pending later) runs heard = subst (OpensDown (resuming_places sending.stage)) (sym heard) (resume_waits (IsOpening o.args wire None) old new log log' wire sending is is later runs)
-  opening_came sending is (step.Done reply) runs heard = opening_read (resuming_places sending.stage) reply (resume_sent (IsOpening o.args wire None) old new log log' wire sending is is (step.Done reply) runs) heard
-  opening_came sending is (step.Failed e) runs heard = subst (OpensDown (resuming_places sending.stage)) (sym heard) (resume_sent (IsOpening o.args wire None) old new log log' wire sending is is (step.Failed e) runs)
-
-  opening_ran : (sending : Sending) → IsOpening o.args wire None 2 (fields sending.command) → opening_places o.sending ≡ resuming_places sending.stage → RunsOpening old new log log' wire started o sending r → OpensDown (opening_places o.sending) r
-  opening_ran sending is many h = subst (λ (n : ℕ). OpensDown n r) (sym many) (opening_came sending is h.came (runs_of old new log log' wire sending h.came started h.runs) h.hears)
-
-  -- the aggregate alone, at places that were left
-  pub opening_falls : IsSoundOpening true o → OpensStream old new log log' wire None started o r → OpensDown (opening_places o.sending) r
-  opening_falls sound (openings.not_built unsent_so e by nothing not_so answer) =
-      let many : opening_places o.sending ≡ 3 = ap opening_places unsent_so in
-      subst (λ (n : ℕ). OpensDown n r) (sym many) (subst (OpensDown 3) (sym answer) (tried_still (IsOpening o.args wire None) log log' 3 1 nothing.log_same (omega arith)))
-  opening_falls sound (openings.begins unsent_so sending new_one h) = opening_ran sending new_one.command_is (ap opening_places unsent_so ∙ ap resuming_places (sym new_one.new)) h
-  opening_falls sound (openings.goes_on sending is h) =
-      let own : IsAggregate true (first_aggregate o.args) sending = subst (SendsSoundly true o.args) is sound in
-      opening_ran sending (subst (λ (x : Option Session). fields sending.command ≡ resuming_in (first_aggregate o.args) own.wire x) own.plainly own.command_is) (ap opening_places is) h
 
 -- how many are left behind a poll of a closing
 abbrev pub closing_left : Step ClosingStream (Unit {0}) → ℕ

@@ -152,7 +152,7 @@ module _ (g : GetTask) (b : ClientBucket) (plain : IsPlainAt b g.at) (past : Pas
       let doing_is : d.doing ≡ downloads.idle x = ap (λ (y : ClientDownload). y.doing) h.download in
       let same : x ≡ c = same_some x c (sym (ap cursor_in doing_is) ∙ is) in
       let none : empties d.doing ≡ 0 = ap empties doing_is in
-      let named : IsNamed (chunks_space g.at) = subst IsNamed plain.place.chunks plain.chunks in
+      let named : IsNamed (chunks_space g.at) = subst IsNamed plain.named.place.chunks plain.named.chunks in
       let said : Cursor = record { id = h.out.info.id; space = space h.out.info.ns; token = h.out.post_batch_resume_token; batch = h.opens.opens.batch } in
       let listed : HeardBy past (chunks_find g d.file.id) (reply h.bytes) = subst (λ (lines : List Line). HeardBy past (fields_in lines) (reply h.bytes)) (listed_same g b d.file.id plain) h.heard in
       let l : IsListOf past g d.file x h.bytes = record { heard = listed; success = h.success; said = said; says = h.opens.opens.says; id_is = refl } in

@@ -70,10 +70,10 @@ chunks_are s at id ds is = chunks_result s (chunks_space at) id ds is
 -- ---- the bucket of a get
 
 pub bucket_is_plain : (g : GetTask) → IsNamed (chunks_space g.at) → IsPlainAt (plain_bucket g.at) g.at
-bucket_is_plain g named = record { place = record { files = refl; chunks = refl }; files = files_named g.at named.db; chunks = named; no_concern = refl; no_criteria = refl }
+bucket_is_plain g named = record { named = record { place = record { files = refl; chunks = refl }; files = files_named g.at named.db; chunks = named }; no_concern = refl; no_criteria = refl }
 
 pub list_asks : (g : GetTask) (id : Tree) (command : List ℕ) → IsNamed (chunks_space g.at) → fields command ≡ chunks_find g id → asked command ≡ asks_query (chunks_query (chunks_space g.at) id)
-list_asks g id command named is = listed_asks (plain_bucket g.at) g.at (bucket_is_plain g named) id command is
+list_asks g id command named is = listed_asks (plain_bucket g.at) g.at (bucket_is_plain g named).named id command is
 
 -- ---- batches
 

@@ -31,9 +31,7 @@ plain_copy at b c is named same =
     let files : c.files ≡ files_space at = same.files ∙ ap (λ (x : ClientBucket). x.files) is in
     let chunks : c.chunks ≡ chunks_space at = same.chunks ∙ ap (λ (x : ClientBucket). x.chunks) is in
     record {
-      place = record { files = files; chunks = chunks };
-      files = subst IsNamed (sym files) (files_named at named);
-      chunks = subst IsNamed (sym chunks) (chunks_named at named);
+      named = record { place = record { files = files; chunks = chunks }; files = subst IsNamed (sym files) (files_named at named); chunks = subst IsNamed (sym chunks) (chunks_named at named) };
       no_concern = none_given c.reads (subst (λ (x : ClientBucket). SameIn level_of x.reads c.reads) is same.reads);
       no_criteria = same.asks ∙ ap (λ (x : ClientBucket). x.asks) is;
     }

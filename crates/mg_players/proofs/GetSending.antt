@@ -56,10 +56,10 @@ module _ (may : Fields → Type 0) where
 -- ---- the commands of a bucket that is a copy
 
 pub found_same : (g : GetTask) (b : ClientBucket) (id : Tree) → IsPlainAt b g.at → found_lines b id ≡ found_lines (plain_bucket g.at) id
-found_same g b id is = rw (is.place.files, is.no_concern, is.no_criteria) refl
+found_same g b id is = rw (is.named.place.files, is.no_concern, is.no_criteria) refl
 
 pub listed_same : (g : GetTask) (b : ClientBucket) (id : Tree) → IsPlainAt b g.at → listed_lines b id ≡ listed_lines (plain_bucket g.at) id
-listed_same g b id is = rw (is.place.chunks, is.no_concern, is.no_criteria) refl
+listed_same g b id is = rw (is.named.place.chunks, is.no_concern, is.no_criteria) refl
 
 -- ---- a batch of a read
 

@@ -292,7 +292,7 @@ module _ (old new : Awaited) (log log' : LogTold) (wire : ℤ) (job : GetPlayer)
         let plain : IsPlainAt b.0 g.at = aim.placed b.0 b.1 in
         let here : HeardRecord past (plain_bucket g.at) g.id (Some d.file) = subst (λ (id : Tree). HeardRecord past (plain_bucket g.at) id (Some d.file)) aim.id_is (heard_same past g b.0 o.id (Some d.file) plain (came b.0 b.1)) in
         record {
-          named = subst IsNamed plain.place.chunks plain.chunks;
+          named = subst IsNamed plain.named.place.chunks plain.named.chunks;
           heard = record_grows past later (grows_ended q.now (length calls) calls' wire) (plain_bucket g.at) g.id (Some d.file) here;
           listed = opened_place calls calls' q at room h placed;
           finds = subst (λ (x : Option FileRecord). FallsAt (IsFindAt g x) calls' 5 (sent_since q.now (length calls) (length calls')) 1) f.by f.falls;
@@ -398,11 +398,11 @@ opening_begins old new log log' wire job after opening aim new_one sound rest =
       next = rest.next;
       turned = λ calls told own at k.
           rest.turned calls told own at (record {
-            knows = (aim, record { placed = aim.placed; by = subst (LookingKnown old calls g.at o.id) (sym new_one) tt }, k.knows.0, k.knows.1);
+            knows = (aim, record { placed = λ b there. (aim.placed b there).named; by = subst (LookingKnown old calls g.at o.id) (sym new_one) tt }, k.knows.0, k.knows.1);
             owns = k.owns ∙ ap (looking_owner old) (sym new_one);
           });
       told = λ calls calls' told told' q at at' placed k t.
-          rest.told calls calls' told told' q at at' placed (aim, record { placed = aim.placed; by = subst (LookingKnown old calls g.at o.id) (sym new_one) tt }, k.0, k.1) (
+          rest.told calls calls' told told' q at at' placed (aim, record { placed = λ b there. (aim.placed b there).named; by = subst (LookingKnown old calls g.at o.id) (sym new_one) tt }, k.0, k.1) (
             t.0,
             aim,
             sound,

@@ -1,12 +1,12 @@
 -- What a put knows of the step of its record goes on to hold, as the log grows.
-use Rattle.std.proofs.Common.{◌≡◌, ◌<◌, ◌++◌, ◌∷◌, [], ℕ, ℤ, List, Option, Some, None, length, take, refl, sym, ap, ◌∙◌, subst, inl, inr, arith}
+use Rattle.std.proofs.Common.{◌≡◌, ◌<◌, ◌≤◌, ◌++◌, ◌∷◌, [], ℕ, ℤ, List, Option, Some, None, length, take, refl, sym, ap, ◌∙◌, subst, inl, inr, arith}
 use Rattle.std.specs.Prelude.{slice_get}
 use Rattle.std.proofs.lemmas.Bool.{cases_lt}
 use Rattle.std.proofs.lemmas.List.{take-append-le, take_at}
 use Rattle.mg_bson.specs.Raw.{fields}
 use Rattle.mg_bson.specs.Tree.{Fields}
 use Rattle.mg_server.specs.Calls.{AddsOnly, IsOwn, Past, past_of}
-use Rattle.mg_server.specs.Files.{AreChunks, LeavesFile}
+use Rattle.mg_server.specs.Files.{AreChunks, LeavesFile, file_of}
 use Rattle.mg_server.specs.Filing.{IsOwnStep, KnowsFile, OthersLeave, part, stays}
 use Rattle.mg_server.specs.History.{IsLegal, Step, state_of}
 use Rattle.mg_link.specs.Log.{Call}
@@ -30,17 +30,30 @@ taken_front : (history before tail : List Step) (position : ℕ) → history ≡
 taken_front history before tail position whole less = ap (take position) whole ∙ take-append-le position before tail (omega (arith, less))
 
 -- nobody else touched the file in a front whose own steps were own ones before
-others_front : (t : PutTask) (past past' : Past) (history before tail : List Step) → history ≡ before ++ tail → ((position : ℕ) → position < length before → IsOwnStep past' position → IsOwnStep past position) → OthersLeave past' history t.at t.id → OthersLeave past before t.at t.id
-others_front t past past' history before tail whole back others position step there =
-    let less = get_within before position step there in
-    elim (others position step (ap (λ (h : List Step). slice_get h position) whole ∙ get_front before tail position step there)) [
-      | inl own ↦ inl (back position less own)
-      | inr leaves ↦ inr (subst (λ (h : List Step). LeavesFile (state_of h) step t.at t.id) (taken_front history before tail position whole less) leaves)
-    ]
+others_front : (t : PutTask) (past past' : Past) (history before tail : List Step) → history ≡ before ++ tail → ((position : ℕ) → position < length before → IsOwnStep past' position → IsOwnStep past position) → ((position : ℕ) → IsOwnStep past position → IsOwnStep past' position)
+    → (others : OthersLeave past' history t.at t.id) → others.from ≤ length before → OthersLeave past before t.at t.id
+others_front t past past' history before tail whole back on others early =
+    let front : take others.from history ≡ take others.from before = ap (take others.from) whole ∙ take-append-le others.from before tail early in
+    record {
+      from = others.from;
+      nothing = ap (λ (h : List Step). file_of (state_of h) t.at t.id) (sym front) ∙ others.nothing;
+      later = λ position own. others.later position (on position own);
+      each = λ position step low there.
+          let less = get_within before position step there in
+          elim (others.each position step low (ap (λ (h : List Step). slice_get h position) whole ∙ get_front before tail position step there)) [
+            | inl own ↦ inl (back position less own)
+            | inr leaves ↦ inr (subst (λ (h : List Step). LeavesFile (state_of h) step t.at t.id) (taken_front history before tail position whole less) leaves)
+          ];
+    }
 
 -- ---- a longer log without a call of its own that is new
 
-module _ (t : PutTask) (past past' : Past) (onward : Onward past.calls past'.calls nobody) (back : (place : ℕ) (call : Call) → IsOwn past' place → slice_get past'.calls place ≡ Some call → IsOwn past place × ((c : Call) × (slice_get past.calls place ≡ Some c))) where
+module _ (t : PutTask) (past past' : Past) (onward : Onward past.calls past'.calls nobody) (back : (place : ℕ) (call : Call) → IsOwn past' place → slice_get past'.calls place ≡ Some call → IsOwn past place × ((c : Call) × (slice_get past.calls place ≡ Some c))) (on : (place : ℕ) (call : Call) → IsOwn past place → slice_get past.calls place ≡ Some call → IsOwn past' place) where
+  own_later : (position : ℕ) → IsOwnStep past position → IsOwnStep past' position
+  own_later position own =
+      let g = onward.grown.keeps own.place own.call own.there in
+      record { place = own.place; own = on own.place own.call own.own own.there; call = g.0; there = g.1; placed = g.3 ∙ own.placed }
+
   own_before : (position : ℕ) (own : IsOwnStep past' position) → (o : IsOwnStep past position) × (o.call.command ≡ own.call.command)
   own_before position own =
       let b = back own.place own.call own.own own.there in
@@ -56,7 +69,8 @@ module _ (t : PutTask) (past past' : Past) (onward : Onward past.calls past'.cal
       let o = own_before position x.own in
       let s = e.stands.same o.0.place o.0.call position o.0.there o.0.placed in
       let less = get_within e.before position s.0 s.1 in
-      let others_so = others_front t past past' history e.before e.tail e.whole (λ p within own. (own_before p own).0) others in
+      let early = others.later position x.own in
+      let others_so = others_front t past past' history e.before e.tail e.whole (λ p within own. (own_before p own).0) own_later others (omega (arith, early, less)) in
       subst (λ (h : List Step). HasAllChunks (state_of h) t) (sym (taken_front history e.before e.tail position e.whole less))
       (lays e.before e.legal e.stands others_so position (record { own = o.0; moment = x.moment; inserts = ap fields o.1 ∙ x.inserts }))
 
@@ -110,18 +124,28 @@ module _ (t : PutTask) (places : List ℕ) (since : ℕ) (calls : List Call) (ca
     | inr new ↦ absurd (other (ap (λ (c : Call). c.position) new.1 ∙ own.placed))
   ]
 
+  -- and is one now
+  own_new : (position : ℕ) → IsOwnStep Before position → IsOwnStep Behind position
+  own_new position own = record { place = own.place; own = own.own; call = own.call; there = get_front calls (call ∷ []) own.place own.call own.there; placed = own.placed }
+
   -- nobody else touched the file before the call took effect
-  others_before : (history : List Step) (q : ℕ) → call.position ≡ Some q → (back : BackTo calls call history q) → OthersLeave Behind history t.at t.id → OthersLeave Before back.before t.at t.id
-  others_before history q placed back others =
+  others_before : (history : List Step) (q : ℕ) → call.position ≡ Some q → (back : BackTo calls call history q) → (others : OthersLeave Behind history t.at t.id) → others.from ≤ q → OthersLeave Before back.before t.at t.id
+  others_before history q placed back others early =
       let here = back.place in
-      others_front t Before Behind history back.before (back.step ∷ back.rest) back.whole (λ position less own. own_old position own (λ at. let same : q ≡ position = same_some q position (sym placed ∙ at) in omega (arith, same, here, less))) others
+      others_front t Before Behind history back.before (back.step ∷ back.rest) back.whole (λ position less own. own_old position own (λ at. let same : q ≡ position = same_some q position (sym placed ∙ at) in omega (arith, same, here, less))) own_new others (omega (arith, early, here))
 
   -- a call that never took effect is no step
   others_without : (history : List Step) → call.position ≡ None → OthersLeave Behind history t.at t.id → OthersLeave Before history t.at t.id
-  others_without history none others position step there = elim (others position step there) [
-    | inl own ↦ inl (own_old position own (λ at. let bad : None ≡ Some position = sym none ∙ at in cc))
-    | inr leaves ↦ inr leaves
-  ]
+  others_without history none others =
+      record {
+        from = others.from;
+        nothing = others.nothing;
+        later = λ position own. others.later position (own_new position own);
+        each = λ position step low there. elim (others.each position step low there) [
+          | inl own ↦ inl (own_old position own (λ at. let bad : None ≡ Some position = sym none ∙ at in cc))
+          | inr leaves ↦ inr leaves
+        ];
+      }
 
   -- a record that was sent before
   by_old : LaysAll Before t → (history : List Step) → IsLegal history → Stands (calls ++ call ∷ []) history → OthersLeave Behind history t.at t.id → (position : ℕ) (x : IsRecordStep Before t position) → x.own.place < length calls → (o : Option ℕ) → call.position ≡ o → HasAllChunks (state_of (take position history)) t
@@ -129,9 +153,13 @@ module _ (t : PutTask) (places : List ℕ) (since : ℕ) (calls : List Call) (ca
   by_old lays history legal stands others position x less (Some q) placed =
       let back = back_to calls call history stands q placed legal in
       let here = back.place in
+      let behind = others.later position (own_new position x.own) in
       let early : position < q = stands.rising x.own.place (length calls) x.own.call call position q less (get_front calls (call ∷ []) x.own.place x.own.call x.own.there) (get_seam calls [] call) x.own.placed placed in
       subst (λ (h : List Step). HasAllChunks (state_of h) t) (sym (taken_front history back.before (back.step ∷ back.rest) position back.whole (omega (arith, early, here))))
-      (lays back.before back.legal back.stands (others_before history q placed back others) position x)
+      (lays back.before back.legal back.stands (others_before history q placed back others (omega (arith, behind, early))) position x)
+
+  own_last : since ≤ length calls → (position : ℕ) → call.position ≡ Some position → IsOwnStep Behind position
+  own_last room position placed = record { place = length calls; own = inr room; call = call; there = get_seam calls [] call; placed = placed }
 
   -- the record that is sent now
   by_new : KnowsAll Before t → (history : List Step) → IsLegal history → Stands (calls ++ call ∷ []) history → OthersLeave Behind history t.at t.id → (position : ℕ) → call.position ≡ Some position → HasAllChunks (state_of (take position history)) t
@@ -139,7 +167,7 @@ module _ (t : PutTask) (places : List ℕ) (since : ℕ) (calls : List Call) (ca
       let back = back_to calls call history stands position placed legal in
       let front : take position history ≡ back.before = ap (take position) back.whole ∙ take_at back.before (back.step ∷ back.rest) position back.place in
       subst (λ (h : List Step). HasAllChunks (state_of h) t) (sym front)
-      (k.0, k.1, k.2.each back.before back.legal back.stands (others_before history position placed back others))
+      (k.0, k.1, k.2.each back.before back.legal back.stands (others_before history position placed back others (others.later position (own_last k.2.room position placed))))
 
   -- Where it is that of the record, all chunks were there as it was sent.
   pub laid_pushed : LaysAll Before t → ((moment : ℤ) → fields call.command ≡ record_insert t moment → KnowsAll Before t) → LaysAll Behind t

@@ -1,10 +1,9 @@
 -- How many places are left to what a follow sends.
-use Rattle.std.specs.Prelude.{IsSome}
-use Rattle.std.proofs.Common.{◌≡◌, ◌≤◌, true, false, Option, Some, None, arith}
-use Rattle.mg_link.specs.Exec.{Sending, Stage, first, second, ticket_at, unsent}
+use Rattle.std.proofs.Common.{◌≤◌, Option, Some, None, arith}
+use Rattle.mg_link.specs.Exec.{Sending, Stage, first, second, unsent}
 use Rattle.mg_cursor.specs.Client.{ClientCursor, asks, holds, rests}
 use Rattle.mg_cursor.specs.Client as cursors
-use Rattle.mg_change.specs.ClientStreams.{Doing, follows, kills, owes, renewed, resumes, ticket_by}
+use Rattle.mg_change.specs.ClientStreams.{Doing, follows, kills, owes, renewed, resumes}
 use Rattle.mg_change.specs.ClosingStreams.{Landing, ends, lands, lands_aggregate, lands_replaced}
 use Rattle.mg_change.specs.Sent.{asking_places, ending_places, killing_places, more_places, places_by, resuming_places}
 use Rattle.mg_players.specs.Telling.{landing_places}
@@ -49,22 +48,3 @@ landing_few lands = omega arith
 landing_few (lands_aggregate sending) = omega arith
 landing_few (lands_replaced before) = omega arith
 landing_few (ends sending) = ending_few sending.stage
-
--- ---- where a reply is waited for, no getMore is to be sent
-
-asking_held : (stage : Stage) → IsSome (ticket_at stage) → asking_places stage ≤ 3
-asking_held unsent held = let bad : false ≡ true = held in absurd cc
-asking_held (first ticket) held = omega arith
-asking_held (second ticket) held = omega arith
-
-more_held : (d : cursors.Doing) → IsSome (cursors.ticket_by d) → more_places d ≤ 3
-more_held rests held = let bad : false ≡ true = held in absurd cc
-more_held (holds reply) held = omega arith
-more_held (asks sending) held = asking_held sending.stage held
-
-pub held_few : (c : ClientCursor) (d : Doing) → IsSome (ticket_by c d) → places_by d c ≤ 3
-held_few c follows held = more_held c.doing held
-held_few c owes held = omega arith
-held_few c (resumes sending) held = resuming_few sending.stage
-held_few c (kills before) held = let few : killing_places before.killing ≤ 1 = killing_few before.killing in omega (arith, few)
-held_few c renewed held = omega arith

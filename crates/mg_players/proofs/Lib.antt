@@ -38,8 +38,10 @@ pub mod Whole
 pub mod Commands
 pub mod Left
 pub mod Fallings
+pub mod CallPlaces
 pub mod Telling
 pub mod PutReady
+pub mod PutFull
 pub mod PutGoing
 pub mod PutTelling
 pub mod PutBuckets

@@ -1,7 +1,7 @@
 -- What a step of a put's index check is caused by, and what it knows of the list that it reads.
 use Rattle.std.proofs.Common.{◌≡◌, ◌≢◌, ◌≤◌, ◌||◌, ℕ, suc, ℤ, Bool, true, false, List, [], ◌∷◌, ◌++◌, length, length-append, Some, None, Ok, refl, sym, ap, ◌∙◌, subst, inl, inr, arith, append-nil, append_assoc}
 use Rattle.mg_bson.specs.Raw.{fields}
-use Rattle.mg_server.specs.Calls.{Came, Flies, HeardLast, NoneBroken, Past, RequestFails, past_of, was_broken}
+use Rattle.mg_server.specs.Calls.{AddsOnly, Came, Flies, HeardLast, NoneBroken, Past, RequestFails, past_of, was_broken}
 use Rattle.mg_link.specs.Errors.{command_code}
 use Rattle.mg_link.specs.Exec.{IsSuccess, Runs, Sending}
 use Rattle.mg_link.specs.Link.{Awaited, LogTold}
@@ -36,12 +36,14 @@ use Rattle.mg_gridfs.specs.declared.indexes.Place.{Place}
 use Rattle.mg_gridfs.specs.declared.indexes.Place.TheVariants as place
 use Rattle.mg_players.specs.PutFailures as fails
 use Rattle.mg_players.specs.PutFailures.{AllOther, CheckReads, ComesNext, HasFound, HasKeys, HeardCreation, HeardIndexes, HeardNone, HeardWhole, IsListedIndex, PutCheckFails, ReadsList, brought, creates_it, documents_held, batch_documents}
+use Rattle.mg_players.specs.PutChecks.{IsGetMore}
 use Rattle.mg_players.proofs.NewestHeard.{HeardNewest}
 use Rattle.mg_players.proofs.PutChecks.{AdvanceHeard, AnyHeard, CreatedHeard, CreationHeard, EndHeard, FindHeard, IndexHeard, IndexedHeard, StepHeard}
 use Rattle.mg_players.proofs.JustGrown.{GrowsBehind, log_behind}
+use Rattle.mg_players.proofs.PutChecking.{AddsTold}
 use Rattle.mg_players.proofs.PutCreated.{CameBehind, created_by, creation_grows, first_asked, listing_ran, there_by}
 use Rattle.mg_players.proofs.PutHeard.{all_grows, indexes_grow, none_grows}
-use Rattle.mg_players.proofs.PutListing.{SoughtBy, brought_are, none_few, seeks_list}
+use Rattle.mg_players.proofs.PutListing.{SoughtBy, brought_are, none_few, seeks_asks, seeks_list}
 
 -- behind a step
 abbrev pub TurnReads : Awaited → Past → ClientBucket → CheckTurned → Type 0
@@ -300,6 +302,13 @@ module _ (old new : Awaited) (log log' : LogTold) (wire : ℤ) (b : ClientBucket
   own_at : (c d : ClientCheck) → c ≡ d → IsSoundCheck b c → IsSoundCheck b d
   own_at c d is h = subst (IsSoundCheck b) is h
 
+  -- what a step sends that reads its list, as it is told of the log
+  asked_by : (at : Place) (calls' told_calls : List Call) → log' ≡ Some calls' → log' ≡ Some told_calls → AddsOnly (IsGetMore (past_of places since calls' wire) b at) calls calls' → AddsTold (IsGetMore (past_of places since told_calls wire) b at) log log'
+  asked_by at calls' told_calls is is_told adds mine told_mine =
+      let same : calls' ≡ told_calls = same_some calls' told_calls (sym is ∙ is_told) in
+      let its : AddsOnly (IsGetMore (past_of places since told_calls wire) b at) calls told_calls = subst (λ (cs : List Call). AddsOnly (IsGetMore (past_of places since cs wire) b at) calls cs) same adds in
+      (told_calls, is_told, subst (λ (cs : List Call). AddsOnly (IsGetMore (past_of places since told_calls wire) b at) cs told_calls) (same_some calls mine (sym told ∙ told_mine)) its)
+
   pub check_reads : (c : ClientCheck) (t : CheckTurned) → IsSoundCheck b c → (o : ChecksOn old new log log' wire b c t) → CheckUnderway old (past_of places since calls wire) b c → CheckReads old (past_of places since calls wire) b c → Grew places since calls log' wire (λ past. TurnReads new past b t × StepHeard past b t o)
   check_reads c t sound (check.by_find s is came_so runs hears) h l =
       let ran = ran_by true (any_lines b) s came_so (own_at c (finds s) is sound) runs (under_at c (finds s) is h) in
@@ -313,11 +322,12 @@ module _ (old new : Awaited) (log log' : LogTold) (wire : ℤ) (b : ClientBucket
   check_reads c t sound (check.by_advance at d found count is empties starts left poll seeks hears) h l =
       let before = subst (CheckReads old (past_of places since calls wire) b) is l in
       let x = seeks_list b wire places since at before.1 empties old new log log' starts d left poll (own_at c (reads at d found count) is sound).0 seeks calls told room (under_at c (reads at d found count) is h) before.4 in
+      let asks = seeks_asks b wire places since at before.1 empties old new log log' starts d left poll (own_at c (reads at d found count) is sound).0 seeks calls told room (under_at c (reads at d found count) is h) before.4 in
       let past = past_of places since x.0 wire in
       let grows = log_grows places since calls x.0 wire x.2 in
       let created = creation_grows (past_of places since calls wire) past grows b at before.0 in
       let few = (own_at c (reads at d found count) is sound).1 in
-      (x.0, x.1, x.2, (advance_so new past b at created before.1 found count few before.2 before.3 left poll t x.3 hears, advance_heard past b new at created before.1 found (subst (λ (n : ℕ). n ≤ 1048576) (sym before.2) few) before.3 left poll x.3))
+      (x.0, x.1, x.2, (advance_so new past b at created before.1 found count few before.2 before.3 left poll t x.3 hears, (advance_heard past b new at created before.1 found (subst (λ (n : ℕ). n ≤ 1048576) (sym before.2) few) before.3 left poll x.3, asked_by at asks.0 x.0 asks.1 x.1 asks.3)))
   check_reads c t sound (check.by_index at s is came_so runs hears) h l =
       let ran = ran_by false (index_lines b at) s came_so (own_at c (indexes at s) is sound) runs (under_at c (indexes at s) is h) in
       let before = subst (CheckReads old (past_of places since calls wire) b) is l in

@@ -1,11 +1,12 @@
 -- What the index check of a put sends.
-use Rattle.std.proofs.Common.{◌≡◌, ℕ, zero, suc, ℤ, Bool, true, false, List, [], ◌∷◌, Option, Some, None, refl, sym, ap, ◌∙◌, subst}
+use Rattle.std.proofs.Common.{◌≡◌, ◌≢◌, ℕ, zero, suc, ℤ, pos, Bool, true, false, List, [], ◌∷◌, Option, Some, None, refl, sym, ap, ◌∙◌, subst}
 use Rattle.mg_bson.specs.Raw.{fields}
 use Rattle.mg_bson.specs.Tree.{Fields}
 use Rattle.mg_server.specs.Calls.{AddsOnly}
 use Rattle.mg_link.specs.Exec.{Runs, Sending}
 use Rattle.mg_link.specs.Link.{Awaited, LogTold}
 use Rattle.mg_link.specs.Log.{Call}
+use Rattle.mg_link.specs.Namespace.{Space}
 use Rattle.mg_link.specs.Session.{Session}
 use Rattle.mg_link.specs.declared.action.Step.{Step}
 use Rattle.mg_link.specs.declared.action.Step.TheVariants as came
@@ -38,7 +39,6 @@ use Rattle.mg_gridfs.specs.declared.indexes.Place.{Place}
 use Rattle.mg_gridfs.specs.declared.indexes.Place.TheVariants as place
 use Rattle.mg_players.specs.PutSends as sends
 use Rattle.mg_players.specs.Gets.{no_manner}
-use Rattle.mg_players.specs.PutChecks.{IsGetMore}
 use Rattle.mg_players.specs.PutSends.{IsCheckCommand}
 use Rattle.mg_players.specs.Puts.{PutTask, put_bucket}
 use Rattle.mg_players.specs.Sends.{CheckFlies}
@@ -73,8 +73,19 @@ told_as may might so log log' adds calls told =
 
 -- ---- the list of indexes
 
-more_flies : (c : ClientCursor) (s : Sending) → c.manner ≡ no_manner → fields s.command ≡ get_more c None → IsGetMore (fields s.command)
-more_flies c s plain is = (c.id, c.space, is ∙ ap (λ (m : Manner). next_command c.id c.space m) plain)
+-- reads some list on, without options
+abbrev pub AsksForMore : Fields → Type 0
+AsksForMore command = (id : ℤ) × (space : Space) × (command ≡ next_command id space no_manner)
+
+-- reads it on by this cursor, which the server holds
+abbrev pub IsMoreBy : ClientCursor → Fields → Type 0
+IsMoreBy c command = (c.id ≢ pos 0) × (command ≡ next_command c.id c.space no_manner)
+
+more_by : (c : ClientCursor) (command : Fields) → IsMoreBy c command → AsksForMore command
+more_by c command more = (c.id, c.space, more.1)
+
+more_flies : (c : ClientCursor) (s : Sending) → c.manner ≡ no_manner → c.id ≢ pos 0 → fields s.command ≡ get_more c None → IsMoreBy c (fields s.command)
+more_flies c s plain held is = (held, is ∙ ap (λ (m : Manner). next_command c.id c.space m) plain)
 
 heard_manner : (c c' : ClientCursor) (x : Step Sending (List ℕ)) (r : NextPoll) → Hears c x c' r → c'.manner ≡ c.manner
 heard_manner c c' (came.Pending s) r h = ap (λ (y : ClientCursor). y.manner) h.0
@@ -105,26 +116,30 @@ kept_manner (try.Failed e) a = refl
 
 -- it adds getMores alone, and goes on to ask for more without options
 abbrev pub AsksOn : LogTold → LogTold → DocumentCursor → Type 0
-AsksOn log log' d = AddsTold IsGetMore log log' × (d.cursor.manner ≡ no_manner)
+AsksOn log log' d = AddsTold AsksForMore log log' × (d.cursor.manner ≡ no_manner)
 
 module _ (old new : Awaited) (log log' : LogTold) (wire : ℤ) where
-  next_sends : (started : Bool) (c c' : ClientCursor) (r : NextPoll) → IsSound true c → c.manner ≡ no_manner → PollsNext old new log log' wire None started c c' r → AddsTold IsGetMore log log' × (c'.manner ≡ no_manner)
-  next_sends started c c' r sound plain (polls.hands_out reply doing quiet none is answer) = (told_same IsGetMore log log' quiet.log_same, ap (λ (y : ClientCursor). y.manner) is ∙ plain)
-  next_sends started c c' r sound plain (polls.is_over doing over quiet none is answer) = (told_same IsGetMore log log' quiet.log_same, ap (λ (y : ClientCursor). y.manner) is ∙ plain)
-  next_sends started c c' r sound plain (polls.not_built doing may e fails quiet none is answer) = (told_same IsGetMore log log' quiet.log_same, ap (λ (y : ClientCursor). y.manner) is ∙ plain)
+  next_sends : (started : Bool) (c c' : ClientCursor) (r : NextPoll) → IsSound true c → c.manner ≡ no_manner → PollsNext old new log log' wire None started c c' r → AddsTold (IsMoreBy c) log log' × (c'.manner ≡ no_manner)
+  next_sends started c c' r sound plain (polls.hands_out reply doing quiet none is answer) = (told_same (IsMoreBy c) log log' quiet.log_same, ap (λ (y : ClientCursor). y.manner) is ∙ plain)
+  next_sends started c c' r sound plain (polls.is_over doing over quiet none is answer) = (told_same (IsMoreBy c) log log' quiet.log_same, ap (λ (y : ClientCursor). y.manner) is ∙ plain)
+  next_sends started c c' r sound plain (polls.not_built doing may e fails quiet none is answer) = (told_same (IsMoreBy c) log log' quiet.log_same, ap (λ (y : ClientCursor). y.manner) is ∙ plain)
   next_sends started c c' r sound plain (polls.begins doing may s new_one more) = (
-    told_ran IsGetMore old new log log' wire s more.came (more_flies c s plain new_one.command_is) (runs_of old new log log' wire s more.came started more.runs),
+    told_ran (IsMoreBy c) old new log log' wire s more.came (more_flies c s plain may.held new_one.command_is) (runs_of old new log log' wire s more.came started more.runs),
     heard_manner c c' more.came r more.hears ∙ plain,
   )
   next_sends started c c' r sound plain (polls.goes_on s doing more) =
       let asks = subst (SoundBy true c) doing sound in (
-        told_ran IsGetMore old new log log' wire s more.came (more_flies c s plain (asks.waits_on.command_is ∙ ap (get_more c) asks.plainly)) (runs_of old new log log' wire s more.came started more.runs),
+        told_ran (IsMoreBy c) old new log log' wire s more.came (more_flies c s plain asks.may.held (asks.waits_on.command_is ∙ ap (get_more c) asks.plainly)) (runs_of old new log log' wire s more.came started more.runs),
         heard_manner c c' more.came r more.hears ∙ plain,
       )
 
+  -- by the cursor that it has
+  pub more_sends : (started : Bool) (d d' : DocumentCursor) (r : TryPoll) → IsSound true d.cursor → d.cursor.manner ≡ no_manner → AdvancesOnce old new log log' wire None started d d' r → AddsTold (IsMoreBy d.cursor) log log' × (d'.cursor.manner ≡ no_manner)
+  more_sends started d d' r sound plain (documents.gives x xs some quiet none is answer) = (told_same (IsMoreBy d.cursor) log log' quiet.log_same, ap (λ (y : DocumentCursor). y.cursor.manner) is ∙ plain)
+  more_sends started d d' r sound plain (documents.polls empty c p polled takes) = let n = next_sends started d.cursor c p sound plain polled in (n.0, taken_manner d c p d' r takes ∙ n.1)
+
   once_sends : (started : Bool) (d d' : DocumentCursor) (r : TryPoll) → IsSound true d.cursor → d.cursor.manner ≡ no_manner → AdvancesOnce old new log log' wire None started d d' r → AsksOn log log' d'
-  once_sends started d d' r sound plain (documents.gives x xs some quiet none is answer) = (told_same IsGetMore log log' quiet.log_same, ap (λ (y : DocumentCursor). y.cursor.manner) is ∙ plain)
-  once_sends started d d' r sound plain (documents.polls empty c p polled takes) = let n = next_sends started d.cursor c p sound plain polled in (n.0, taken_manner d c p d' r takes ∙ n.1)
+  once_sends started d d' r sound plain once = let m = more_sends started d d' r sound plain once in (told_as (IsMoreBy d.cursor) AsksForMore (more_by d.cursor) log log' m.0, m.1)
 
   try_sends : (started : Bool) (d d' : DocumentCursor) (r : TryPoll) → IsSound true d.cursor → d.cursor.manner ≡ no_manner → TriesAdvance old new log log' wire None started d d' r → AsksOn log log' d'
   try_sends started d d' r sound plain tries = let o = once_sends started d tries.advanced r sound plain tries.tries in (o.0, ap (λ (y : DocumentCursor). y.cursor.manner) tries.kept ∙ kept_manner r tries.advanced ∙ o.1)
@@ -144,7 +159,7 @@ seeks_send (suc n) old new log log' wire starts d d' r sound plain seeks =
     let sound_on = advance_sound true old seeks.0 log seeks.1 wire None seeks.2 d on.advanced (try.Ready result.Waiting) sound refl on.tries in
     let rest = seeks_send n seeks.0 new seeks.1 log' wire seeks.3 seeks.4 d' r (subst (λ (y : DocumentCursor). IsSound true y.cursor) (sym on.counts) sound_on) (ap (λ (y : DocumentCursor). y.cursor.manner) on.counts ∙ o.1)
     (subst (λ (s : Option Session). SeeksDocument n seeks.0 new seeks.1 log' wire s seeks.3 seeks.4 d' r) (none_after seeks.2) seeks.7) in
-    (told_on IsGetMore log seeks.1 log' o.0 rest.0, rest.1)
+    (told_on AsksForMore log seeks.1 log' o.0 rest.0, rest.1)
 
 -- ---- what comes of a step
 
@@ -246,8 +261,8 @@ module _ (t : PutTask) (old new : Awaited) (log log' : LogTold) (wire : ℤ) (b 
   its_own : (lines : ClientBucket → List Line) → IsOfCheck (put_bucket t) (lines (put_bucket t)) → (command : List ℕ) → fields command ≡ fields_in (lines b) → IsCheckCommand (put_bucket t) (fields command)
   its_own lines of command is = sends.of_check (lines (put_bucket t)) of (is ∙ ap (λ (x : ClientBucket). fields_in (lines x)) same)
 
-  more_told : AddsTold IsGetMore log log' → AddsTold (IsCheckCommand (put_bucket t)) log log'
-  more_told adds = told_as IsGetMore (IsCheckCommand (put_bucket t)) (λ command is. sends.reads_on is.0 is.1 is.2) log log' adds
+  more_told : AddsTold AsksForMore log log' → AddsTold (IsCheckCommand (put_bucket t)) log log'
+  more_told adds = told_as AsksForMore (IsCheckCommand (put_bucket t)) (λ command is. sends.reads_on is.0 is.1 is.2) log log' adds
 
   ran : (s : Sending) (c : Step Sending (List ℕ)) (lines : ClientBucket → List Line) → IsOfCheck (put_bucket t) (lines (put_bucket t)) → fields s.command ≡ fields_in (lines b) → Runs old new log log' wire s c → AddsTold (IsCheckCommand (put_bucket t)) log log'
   ran s c lines of is runs = told_ran (IsCheckCommand (put_bucket t)) old new log log' wire s c (its_own lines of s.command is) runs

@@ -29,7 +29,7 @@ use Rattle.mg_gridfs.specs.declared.indexes.Place.TheVariants as place
 use Rattle.mg_players.specs.PutChecks.{AreGetMores, CheckPasses, CheckSends, CheckSentAt, IsGetMore, SendsBefore, SendsBehind, SendsCreation, SendsFind, SendsIndex, SendsList, AsksForList, SendsPart, SendsWhole, any_find, count_at, creation, index_creation, listing, most_often, to_creation, to_find, to_index, to_list, to_listing, to_part, where_missing}
 use Rattle.mg_players.specs.PutFailures.{HeardCreation, HeardIndexes, HeardNone, HeardSome, HeardWhole}
 use Rattle.mg_players.specs.Sends.{CheckFlies}
-use Rattle.mg_players.proofs.PutChecking.{AddsTold, seeks_send}
+use Rattle.mg_players.proofs.PutChecking.{AddsTold}
 
 -- ---- how often a command is sent
 
@@ -170,29 +170,30 @@ runs_count again command old new log log' wire s may is c (inr twice) =
 
 -- ---- what a list that is read on adds
 
-mores_on : (commands more : List Fields) → AreGetMores commands → AreGetMores more → AreGetMores (commands ++ more)
-mores_on [] more its rest = rest
-mores_on (c ∷ commands) more its rest = (its.0, mores_on commands more its.1 rest)
+module _ (past : Past) (b : ClientBucket) (at : Place) where
+  mores_on : (commands more : List Fields) → AreGetMores past b at commands → AreGetMores past b at more → AreGetMores past b at (commands ++ more)
+  mores_on [] more its rest = rest
+  mores_on (c ∷ commands) more its rest = (its.0, mores_on commands more its.1 rest)
 
-mores_sent : (calls : List Call) → ((place : ℕ) (call : Call) → slice_get calls place ≡ Some call → IsGetMore (fields call.command)) → AreGetMores (commands_sent calls)
-mores_sent [] each = tt
-mores_sent (c ∷ calls) each = (each 0 c refl, mores_sent calls (λ place call there. each (suc place) call there))
+  mores_sent : (calls : List Call) → ((place : ℕ) (call : Call) → slice_get calls place ≡ Some call → IsGetMore past b at (fields call.command)) → AreGetMores past b at (commands_sent calls)
+  mores_sent [] each = tt
+  mores_sent (c ∷ calls) each = (each 0 c refl, mores_sent calls (λ place call there. each (suc place) call there))
 
-mores_added : (calls calls' : List Call) → AddsOnly IsGetMore calls calls' → (more : List Fields) × (commands_sent calls' ≡ commands_sent calls ++ more) × AreGetMores more
-mores_added [] calls' a = (commands_sent calls', refl, mores_sent calls' (λ place call there. a.added place call (omega arith) there))
-mores_added (c ∷ calls) [] a = let k = a.keeps 0 c refl in absurd (let bad : None ≡ Some k.0 = k.1 in cc)
-mores_added (c ∷ calls) (d ∷ calls') a =
-    let k = a.keeps 0 c refl in
-    let same : d ≡ k.0 = same_some d k.0 k.1 in
-    let rest = mores_added calls calls' (record { keeps = λ place call there. a.keeps (suc place) call there; added = λ place call behind there. a.added (suc place) call (omega (arith, behind)) there }) in
-    (rest.0, ap₂ (λ (x : Fields) (l : List Fields). x ∷ l) (ap (λ (x : Call). fields x.command) same ∙ ap fields k.2) rest.1, rest.2)
+  mores_added : (calls calls' : List Call) → AddsOnly (IsGetMore past b at) calls calls' → (more : List Fields) × (commands_sent calls' ≡ commands_sent calls ++ more) × AreGetMores past b at more
+  mores_added [] calls' a = (commands_sent calls', refl, mores_sent calls' (λ place call there. a.added place call (omega arith) there))
+  mores_added (c ∷ calls) [] a = let k = a.keeps 0 c refl in absurd (let bad : None ≡ Some k.0 = k.1 in cc)
+  mores_added (c ∷ calls) (d ∷ calls') a =
+      let k = a.keeps 0 c refl in
+      let same : d ≡ k.0 = same_some d k.0 k.1 in
+      let rest = mores_added calls calls' (record { keeps = λ place call there. a.keeps (suc place) call there; added = λ place call behind there. a.added (suc place) call (omega (arith, behind)) there }) in
+      (rest.0, ap₂ (λ (x : Fields) (l : List Fields). x ∷ l) (ap (λ (x : Call). fields x.command) same ∙ ap fields k.2) rest.1, rest.2)
 
-mores_told : (log log' : LogTold) → AddsTold IsGetMore log log' → (more : List Fields) × AddsJust log log' more × AreGetMores more
-mores_told None log' adds = ([], (λ calls told. absurd cc), tt)
-mores_told (Some calls) log' adds =
-    let x = adds calls refl in
-    let s = mores_added calls x.0 x.2 in
-    (s.0, (λ mine told. (x.0, x.1, subst (λ (l : List Call). commands_sent x.0 ≡ commands_sent l ++ s.0) (same_some calls mine told) s.1)), s.2)
+  mores_told : (log log' : LogTold) → AddsTold (IsGetMore past b at) log log' → (more : List Fields) × AddsJust log log' more × AreGetMores past b at more
+  mores_told None log' adds = ([], (λ calls told. absurd cc), tt)
+  mores_told (Some calls) log' adds =
+      let x = adds calls refl in
+      let s = mores_added calls x.0 x.2 in
+      (s.0, (λ mine told. (x.0, x.1, subst (λ (l : List Call). commands_sent x.0 ≡ commands_sent l ++ s.0) (same_some calls mine told) s.1)), s.2)
 
 -- ---- up to some point
 
@@ -213,15 +214,15 @@ module _ (past : Past) (b : ClientBucket) (at : Place) where
   }
 
   -- behind a list no index is created yet
-  index_none : (part : List Fields) → SendsList b at part → SendsIndex b at 0 part
+  index_none : (part : List Fields) → SendsList past b at part → SendsIndex past b at 0 part
   index_none part list = record { list = part; parts = sym (append-nil part); listed = list }
 
   -- nor is it where it was found
-  list_whole : HeardWhole past b at true → (part : List Fields) → SendsList b at part → SendsWhole past b at part
+  list_whole : HeardWhole past b at true → (part : List Fields) → SendsList past b at part → SendsWhole past b at part
   list_whole heard part list = record { found = true; ends = index_none part list; heard = heard }
 
-  whole_by : (found : Bool) (part : List Fields) → SendsIndex b at (where_missing found) part → HeardWhole past b at found → SendsPart past b at part
-  whole_by true part ends heard = to_list heard.created (subst (SendsList b at) (sym (ends.parts ∙ append-nil ends.list)) ends.listed)
+  whole_by : (found : Bool) (part : List Fields) → SendsIndex past b at (where_missing found) part → HeardWhole past b at found → SendsPart past b at part
+  whole_by true part ends heard = to_list heard.created (subst (SendsList past b at) (sym (ends.parts ∙ append-nil ends.list)) ends.listed)
   whole_by false part ends heard = to_index heard.created heard.listed 1 (omega arith) ends
 
   of_creation : (count : ℕ) → count ≤ 1 → (commands : List Fields) → SendsBehind past b at (SendsCreation b at count) commands → CheckSends past b commands
@@ -230,11 +231,11 @@ module _ (past : Past) (b : ClientBucket) (at : Place) where
   of_listing : HeardCreation past b at → (count : ℕ) → count ≤ 2 → (commands : List Fields) → SendsBehind past b at (AsksForList b at count) commands → CheckSends past b commands
   of_listing created count few commands h = to_part at (behind_as (AsksForList b at count) (SendsPart past b at) commands (λ part its. to_listing created count few its) h)
 
-  of_list : HeardCreation past b at → (commands : List Fields) → SendsBehind past b at (SendsList b at) commands → CheckSends past b commands
-  of_list created commands h = to_part at (behind_as (SendsList b at) (SendsPart past b at) commands (λ part its. to_list created its) h)
+  of_list : HeardCreation past b at → (commands : List Fields) → SendsBehind past b at (SendsList past b at) commands → CheckSends past b commands
+  of_list created commands h = to_part at (behind_as (SendsList past b at) (SendsPart past b at) commands (λ part its. to_list created its) h)
 
-  of_index : HeardCreation past b at → HeardIndexes past b at false → (count : ℕ) → count ≤ 1 → (commands : List Fields) → SendsBehind past b at (SendsIndex b at count) commands → CheckSends past b commands
-  of_index created listed count few commands h = to_part at (behind_as (SendsIndex b at count) (SendsPart past b at) commands (λ part its. to_index created listed count few its) h)
+  of_index : HeardCreation past b at → HeardIndexes past b at false → (count : ℕ) → count ≤ 1 → (commands : List Fields) → SendsBehind past b at (SendsIndex past b at count) commands → CheckSends past b commands
+  of_index created listed count few commands h = to_part at (behind_as (SendsIndex past b at count) (SendsPart past b at) commands (λ part its. to_index created listed count few its) h)
 
   of_whole : (commands : List Fields) → SendsBehind past b at (SendsWhole past b at) commands → CheckSends past b commands
   of_whole commands h = to_part at (behind_as (SendsWhole past b at) (SendsPart past b at) commands (λ part its. whole_by its.found part its.ends its.heard) h)
@@ -310,11 +311,11 @@ IndexHeard past b k (came.Failed e) r h = Unit {0}
 
 -- what its step heard
 abbrev pub StepHeard : {old new : Awaited} {log log' : LogTold} {wire : ℤ} {c : ClientCheck} (past : Past) (b : ClientBucket) (r : CheckTurned) → ChecksOn old new log log' wire b c r → Type 0
-StepHeard past b r (by_find s is x runs hears) = FindHeard past b x r hears
-StepHeard past b r (by_creation k s is x runs hears) = CreationHeard past b k x r hears
-StepHeard past b r (by_listing k s is x runs hears) = Unit {0}
-StepHeard past b r (by_advance k cursor found count is empties starts left poll seeks hears) = AdvanceHeard past b k found poll
-StepHeard past b r (by_index k s is x runs hears) = IndexHeard past b k x r hears
+StepHeard {old} {new} {log} {log'} {wire} {c} past b r (by_find s is x runs hears) = FindHeard past b x r hears
+StepHeard {old} {new} {log} {log'} {wire} {c} past b r (by_creation k s is x runs hears) = CreationHeard past b k x r hears
+StepHeard {old} {new} {log} {log'} {wire} {c} past b r (by_listing k s is x runs hears) = Unit {0}
+StepHeard {old} {new} {log} {log'} {wire} {c} past b r (by_advance k cursor found count is empties starts left poll seeks hears) = AdvanceHeard past b k found poll × AddsTold (IsGetMore past b k) log log'
+StepHeard {old} {new} {log} {log'} {wire} {c} past b r (by_index k s is x runs hears) = IndexHeard past b k x r hears
 
 module _ (past : Past) (b : ClientBucket) (commands : List Fields) where
   turn_as : (r q : CheckTurned) → r ≡ q → TurnSent past b commands q → TurnSent past b commands r
@@ -387,12 +388,12 @@ module _ (past : Past) (b : ClientBucket) (commands : List Fields) where
 
     -- ---- the list
 
-    list_begins : (n : ℕ) → 1 ≤ n → n ≤ 2 → (part : List Fields) → AsksForList b k n part → SendsList b k part
+    list_begins : (n : ℕ) → 1 ≤ n → n ≤ 2 → (part : List Fields) → AsksForList b k n part → SendsList past b k part
     list_begins n some few part so = record { asked = n; mores = []; parts = so ∙ ap (λ (l : List Fields). creation b k ∷ l) (sym (append-nil (replicate n (listing b k)))); some = some; few = few; read_on = tt }
 
     list_sent : HeardCreation past b k → (n : ℕ) → 1 ≤ n → n ≤ 2 → SendsBehind past b k (AsksForList b k n) commands → (bytes : List ℕ) (r : CheckTurned) → HearsList k bytes r → TurnSent past b commands r
     list_sent created n some few so bytes r (check.opened out opens is) =
-        turn_as r (check.goes (reads k (new_documents (new_client out)) false 0)) is (created, behind_as past b k (AsksForList b k n) (SendsList b k) commands (list_begins n some few) so)
+        turn_as r (check.goes (reads k (new_documents (new_client out)) false 0)) is (created, behind_as past b k (AsksForList b k n) (SendsList past b k) commands (list_begins n some few) so)
     list_sent created n some few so bytes r (check.broke e fails is) = turn_as r (check.fails e) is (of_listing past b k created n few commands so)
 
     listing_sent : HeardCreation past b k → (n : ℕ) → SendsBehind past b k (AsksForList b k n) commands → (c : Step Sending (List ℕ)) → IsCounted true c n → (r : CheckTurned) → HearsListing k c r → TurnSent past b commands r
@@ -400,19 +401,19 @@ module _ (past : Past) (b : ClientBucket) (commands : List Fields) where
     listing_sent created n so (came.Done bytes) counted r h = list_sent created n counted.0 counted.1 so bytes r h
     listing_sent created n so (came.Failed e) counted r h = turn_as r (check.fails e) h (of_listing past b k created n counted.1 commands so)
 
-    module _ (created : HeardCreation past b k) (so : SendsBehind past b k (SendsList b k) commands) where
+    module _ (created : HeardCreation past b k) (so : SendsBehind past b k (SendsList past b k) commands) where
       look_sent : (cursor : DocumentCursor) (document : List ℕ) (found : Bool) (count : ℕ) (r : CheckTurned) → Looks k cursor document found count r → TurnSent past b commands r
       look_sent cursor document found count r (check.looked i few read is) = turn_as r _ is (created, so)
       look_sent cursor document found count r (check.too_many many is) = turn_as r _ is (of_list past b k created commands so)
       look_sent cursor document found count r (check.broke e fails is) = turn_as r (check.fails e) is (of_list past b k created commands so)
 
-      index_next : (s : Sending) → s.stage ≡ unsent → SendsBehind past b k (SendsIndex b k (count_at false s.stage)) commands
+      index_next : (s : Sending) → s.stage ≡ unsent → SendsBehind past b k (SendsIndex past b k (count_at false s.stage)) commands
       index_next s new =
-          behind_as past b k (SendsList b k) (SendsIndex b k (count_at false s.stage)) commands
+          behind_as past b k (SendsList past b k) (SendsIndex past b k (count_at false s.stage)) commands
           (λ part its. record { list = part; parts = sym (append-nil part) ∙ ap (λ (x : Stage). part ++ replicate (count_at false x) (index_creation b k)) (sym new); listed = its }) so
 
       listed_sent : (found : Bool) (r : CheckTurned) → EndsList b k found r → EndHeard past b k found → TurnSent past b commands r
-      listed_sent true r h heard = goes_behind k r (behind_as past b k (SendsList b k) (SendsWhole past b k) commands (list_whole past b k heard) so) h
+      listed_sent true r h heard = goes_behind k r (behind_as past b k (SendsList past b k) (SendsWhole past b k) commands (list_whole past b k heard) so) h
       listed_sent false r h heard = builds_sent false _ (indexes k) r (λ s new. (created, heard, index_next s new)) (of_list past b k created commands so) h
 
       advanced_sent : (cursor : DocumentCursor) (found : Bool) (count : ℕ) (poll : AdvancePoll) (r : CheckTurned) → HearsAdvance b k cursor found count poll r → AdvanceHeard past b k found poll → TurnSent past b commands r
@@ -423,14 +424,14 @@ module _ (past : Past) (b : ClientBucket) (commands : List Fields) where
 
     -- ---- the index
 
-    indexed_sent : HeardCreation past b k → HeardIndexes past b k false → (n : ℕ) → 1 ≤ n → n ≤ 1 → SendsBehind past b k (SendsIndex b k n) commands → (bytes : List ℕ) (r : CheckTurned) → (h : HearsIndexed b k bytes r) → IndexedHeard past b k h → TurnSent past b commands r
+    indexed_sent : HeardCreation past b k → HeardIndexes past b k false → (n : ℕ) → 1 ≤ n → n ≤ 1 → SendsBehind past b k (SendsIndex past b k n) commands → (bytes : List ℕ) (r : CheckTurned) → (h : HearsIndexed b k bytes r) → IndexedHeard past b k h → TurnSent past b commands r
     indexed_sent created listed n some few so bytes r (check.done none behind) heard =
         let one : n ≡ 1 = omega (arith, some, few) in
-        goes_behind k r (behind_as past b k (SendsIndex b k n) (SendsWhole past b k) commands (λ part its. record { found = false; ends = subst (λ (m : ℕ). SendsIndex b k m part) one its; heard = heard }) so) behind
+        goes_behind k r (behind_as past b k (SendsIndex past b k n) (SendsWhole past b k) commands (λ part its. record { found = false; ends = subst (λ (m : ℕ). SendsIndex past b k m part) one its; heard = heard }) so) behind
     indexed_sent created listed n some few so bytes r (check.unread e fails is) heard = turn_as r (check.fails e) is (of_index past b k created listed n few commands so)
 
-    index_sent : HeardCreation past b k → HeardIndexes past b k false → (n : ℕ) → SendsBehind past b k (SendsIndex b k n) commands → (c : Step Sending (List ℕ)) → IsCounted false c n → (r : CheckTurned) → (h : HearsIndex b k c r) → IndexHeard past b k c r h → TurnSent past b commands r
-    index_sent created listed n so (came.Pending s) counted r h heard = turn_as r (check.pends (indexes k s)) h (created, listed, subst (λ (m : ℕ). SendsBehind past b k (SendsIndex b k m) commands) counted so)
+    index_sent : HeardCreation past b k → HeardIndexes past b k false → (n : ℕ) → SendsBehind past b k (SendsIndex past b k n) commands → (c : Step Sending (List ℕ)) → IsCounted false c n → (r : CheckTurned) → (h : HearsIndex b k c r) → IndexHeard past b k c r h → TurnSent past b commands r
+    index_sent created listed n so (came.Pending s) counted r h heard = turn_as r (check.pends (indexes k s)) h (created, listed, subst (λ (m : ℕ). SendsBehind past b k (SendsIndex past b k m) commands) counted so)
     index_sent created listed n so (came.Done bytes) counted r h heard = indexed_sent created listed n counted.0 counted.1 so bytes r h heard
     index_sent created listed n so (came.Failed e) counted r h heard = turn_as r (check.fails e) h (of_index past b k created listed n counted.1 commands so)
 
@@ -447,20 +448,20 @@ module _ (past : Past) (b : ClientBucket) (k : Place) (commands : List Fields) w
       behind_on past b k (AsksForList b k n) (AsksForList b k (n + more)) commands (replicate more L)
       (λ part is. ap (λ (l : List Fields). l ++ replicate more L) is ∙ ap (λ (l : List Fields). C ∷ l) (replicate-append-replicate n more L)) so
 
-  list_more : (more : List Fields) → AreGetMores more → SendsBehind past b k (SendsList b k) commands → SendsBehind past b k (SendsList b k) (commands ++ more)
-  list_more more mores so = behind_on past b k (SendsList b k) (SendsList b k) commands more (λ part its. record {
+  list_more : (more : List Fields) → AreGetMores past b k more → SendsBehind past b k (SendsList past b k) commands → SendsBehind past b k (SendsList past b k) (commands ++ more)
+  list_more more mores so = behind_on past b k (SendsList past b k) (SendsList past b k) commands more (λ part its. record {
     asked = its.asked;
     mores = its.mores ++ more;
     parts = ap (λ (l : List Fields). l ++ more) its.parts ∙ ap (λ (l : List Fields). creation b k ∷ l) (append_assoc (replicate its.asked (listing b k)) its.mores more);
     some = its.some;
     few = its.few;
-    read_on = mores_on its.mores more its.read_on mores;
+    read_on = mores_on past b k its.mores more its.read_on mores;
   }) so
 
-  index_more : (n more : ℕ) → SendsBehind past b k (SendsIndex b k n) commands → SendsBehind past b k (SendsIndex b k (n + more)) (commands ++ replicate more (index_creation b k))
+  index_more : (n more : ℕ) → SendsBehind past b k (SendsIndex past b k n) commands → SendsBehind past b k (SendsIndex past b k (n + more)) (commands ++ replicate more (index_creation b k))
   index_more n more so =
       let I : Fields = index_creation b k in
-      behind_on past b k (SendsIndex b k n) (SendsIndex b k (n + more)) commands (replicate more I) (λ part its. record {
+      behind_on past b k (SendsIndex past b k n) (SendsIndex past b k (n + more)) commands (replicate more I) (λ part its. record {
         list = its.list;
         parts = ap (λ (l : List Fields). l ++ replicate more I) its.parts ∙ append_assoc its.list (replicate n I) (replicate more I) ∙ ap (λ (l : List Fields). its.list ++ l) (replicate-append-replicate n more I);
         listed = its.listed;
@@ -494,9 +495,8 @@ module _ (past : Past) (b : ClientBucket) (old new : Awaited) (log log' : LogTol
       (more, a.1, listing_sent past b (commands ++ more) k before.0 (n + a.0) (listing_more past b k commands n a.0 before.1) x a.2 r hears)
   check_adds c r sound flies sent (by_advance k cursor found count is empties starts left poll seeks hears) heard =
       let before = subst (CheckSentAt past b commands) is sent in
-      let o = seeks_send empties old new log log' wire starts cursor left poll (subst (IsSoundCheck b) is sound).0 (subst CheckFlies is flies) seeks in
-      let a = mores_told log log' o.0 in
-      (a.0, a.1, advanced_sent past b (commands ++ a.0) k before.0 (list_more past b k commands a.0 a.2 before.1) left found count poll r hears heard)
+      let a = mores_told past b k log log' heard.1 in
+      (a.0, a.1, advanced_sent past b (commands ++ a.0) k before.0 (list_more past b k commands a.0 a.2 before.1) left found count poll r hears heard.0)
   check_adds c r sound flies sent (by_index k s is x runs hears) heard =
       let before = subst (CheckSentAt past b commands) is sent in
       let request = subst (IsSoundCheck b) is sound in

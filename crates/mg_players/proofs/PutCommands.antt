@@ -16,7 +16,7 @@ use Rattle.mg_ops.specs.InsertSends.{AddsFirst}
 use Rattle.mg_ops.specs.Logs.{AddsJust}
 use Rattle.mg_ops.proofs.Logs.{done_first, failed_first, pending_first}
 use Rattle.mg_players.specs.PutChecks.{CheckPasses, to_find}
-use Rattle.mg_players.specs.PutSends.{Around, ChunkPieces, InsertsChunks, IsErrorBehind, NeedsNoCheck, PutSends, SentAll, SentChunks, SentUntil, chunks_removal, file_chunks, record_at, record_insert}
+use Rattle.mg_players.specs.PutSends.{Around, ChunkPieces, InsertsChunks, IsErrorBehind, NeedsNoCheck, PutSends, Reach, SentAll, SentChunks, SentUntil, chunks_removal, file_chunks, record_at, record_insert}
 use Rattle.mg_players.specs.Puts.{IsMoment, PutTask, Supply, put_bucket, total}
 use Rattle.mg_players.proofs.PutSending.{some_chunks}
 
@@ -95,8 +95,8 @@ record_more supply t ever commands moment command its is s = record {
 -- ---- the way back
 
 -- behind some chunks
-pub until_chunks : (supply : Supply) (t : PutTask) (ever : Past) (past : Past) (commands : List Fields) (checked : Bool) (upto : ℕ) (e : Error) → NeedsNoCheck t checked → IsErrorBehind supply t past upto None e → SentChunks supply t ever commands checked upto → SentUntil supply t ever past commands (Some e) false
-until_chunks supply t ever past commands checked upto e may holds s = record {
+pub until_chunks : (supply : Supply) (t : PutTask) (R : Reach) (ever : Past) (past : Past) (commands : List Fields) (checked : Bool) (upto : ℕ) (e : Error) → NeedsNoCheck t checked → IsErrorBehind supply t past upto None e → R upto None → SentChunks supply t ever commands checked upto → SentUntil supply t R ever past commands (Some e) false
+until_chunks supply t R ever past commands checked upto e may holds near s = record {
   upto = upto;
   moment = None;
   sends = record {
@@ -111,15 +111,15 @@ until_chunks supply t ever past commands checked upto e may holds s = record {
     timely = λ m is. absurd cc;
   };
   behind = λ full. check_comes t ever checked s.check s.passed may full;
-  holds = holds;
+  holds = (holds, near);
 }
 
 -- behind all chunks
-pub until_all : (supply : Supply) (t : PutTask) (ever : Past) (past : Past) (commands : List Fields) (moment : Option ℤ) (e : Error) → 0 < t.chunk → IsErrorBehind supply t past (length (file_chunks t)) moment e → SentAll supply t ever commands moment → SentUntil supply t ever past commands (Some e) false
-until_all supply t ever past commands moment e room holds s = record { upto = length (file_chunks t); moment = moment; sends = s; behind = λ full. s.checked (inl (some_chunks t room full)) full; holds = holds }
+pub until_all : (supply : Supply) (t : PutTask) (R : Reach) (ever : Past) (past : Past) (commands : List Fields) (moment : Option ℤ) (e : Error) → 0 < t.chunk → IsErrorBehind supply t past (length (file_chunks t)) moment e → R (length (file_chunks t)) moment → SentAll supply t ever commands moment → SentUntil supply t R ever past commands (Some e) false
+until_all supply t R ever past commands moment e room holds near s = record { upto = length (file_chunks t); moment = moment; sends = s; behind = λ full. s.checked (inl (some_chunks t room full)) full; holds = (holds, near) }
 
-pub removal_more : (supply : Supply) (t : PutTask) (ever : Past) (past : Past) (commands : List Fields) (command : Fields) (error : Option Error) → command ≡ chunks_removal t → SentUntil supply t ever past commands error false → SentUntil supply t ever past (commands ++ command ∷ []) error true
-removal_more supply t ever past commands command error is s =
+pub removal_more : (supply : Supply) (t : PutTask) (R : Reach) (ever : Past) (past : Past) (commands : List Fields) (command : Fields) (error : Option Error) → command ≡ chunks_removal t → SentUntil supply t R ever past commands error false → SentUntil supply t R ever past (commands ++ command ∷ []) error true
+removal_more supply t R ever past commands command error is s =
     let p = s.sends in
     let R : List Fields = record_at t s.moment in
     record {

@@ -25,7 +25,7 @@ use Rattle.mg_players.specs.declared.put.PutStage.TheVariants as puts
 use Rattle.mg_players.proofs.PutPolled.{takes_close, takes_write}
 use Rattle.mg_players.proofs.PutSending.{joined_total}
 use Rattle.mg_players.proofs.PutTurning.{put_over, put_still}
-use Rattle.mg_players.proofs.PutWriting.{ClosePolled, WritePolled, close_adds, close_clears, close_done, close_fails, close_lays_done, close_lays_fails, close_room, close_said_done, close_said_fails, close_waits, write_adds, write_clears, write_done, write_fails, write_lays, write_room, write_said, write_waits}
+use Rattle.mg_players.proofs.PutWriting.{ClosePolled, WritePolled, close_adds, close_clears, close_done, close_fails, close_kept, close_lays_done, close_lays_fails, close_room, close_said_done, close_said_fails, close_waits, write_adds, write_clears, write_done, write_fails, write_kept, write_lays, write_room, write_said, write_waits}
 use Rattle.mg_players.proofs.Telling.{answered_by, extends_answered, extends_going, going_on}
 
 -- ---- the put behind a poll, by another name
@@ -92,7 +92,7 @@ module _ (moment : ℤ) (p : PutPlayer) (going going' : Going) (bytes : List ℕ
         record {
           longer = write_room (supply_from supply n) T Ids Later old new log log' wire U U' bytes wrote.Pending polled holds.sound.between p.done there holds.doing calls calls' told told' q says.0;
           places = going_on q (length calls) (length calls');
-          tells = (write_waits (supply_from supply n) T Ids Later old new log log' wire U U' bytes wrote.Pending polled holds.sound.between p.done there holds.doing calls calls' told told' q says.0 refl, length_is ∙ says.1);
+          tells = (write_waits (supply_from supply n) T Ids Later old new log log' wire U U' bytes wrote.Pending polled holds.sound.between p.done there holds.doing calls calls' told told' q says.0 sound.between.rests_so refl, length_is ∙ says.1);
           extends = extends_going q (suc p.done) (suc p.done) (length calls) (length calls') refl (write_room (supply_from supply n) T Ids Later old new log log' wire U U' bytes wrote.Pending polled holds.sound.between p.done there holds.doing calls calls' told told' q says.0);
           adds = write_adds (supply_from supply n) T Ids Later old new log log' wire U U' bytes wrote.Pending polled holds.sound.between p.done there holds.doing calls calls' told told' q says.0;
         };
@@ -126,7 +126,7 @@ module _ (moment : ℤ) (p : PutPlayer) (going going' : Going) (bytes : List ℕ
         record {
           longer = write_room (supply_from supply n) T Ids Later old new log log' wire U U' bytes (wrote.Failed e) polled holds.sound.between p.done there holds.doing calls calls' told told' q says.0;
           places = going_on q (length calls) (length calls');
-          tells = (says.0.opened, says.0.counted, inr (says.0.sized, write_fails (supply_from supply n) T Ids Later old new log log' wire U U' bytes (wrote.Failed e) polled holds.sound.between p.done there holds.doing calls calls' told told' q says.0 e refl, write_clears (supply_from supply n) T Ids Later old new log log' wire U U' bytes (wrote.Failed e) polled holds.sound.between p.done there holds.doing calls calls' told told' q says.0 e refl), tt, write_said (supply_from supply n) T Ids Later old new log log' wire U U' bytes (wrote.Failed e) polled holds.sound.between p.done there holds.doing calls calls' told told' q says.0 e refl, write_lays (supply_from supply n) T Ids Later old new log log' wire U U' bytes (wrote.Failed e) polled holds.sound.between p.done there holds.doing calls calls' told told' q says.0 e refl);
+          tells = (says.0.opened, says.0.counted, inr (says.0.sized, write_fails (supply_from supply n) T Ids Later old new log log' wire U U' bytes (wrote.Failed e) polled holds.sound.between p.done there holds.doing calls calls' told told' q says.0 e refl, write_clears (supply_from supply n) T Ids Later old new log log' wire U U' bytes (wrote.Failed e) polled holds.sound.between p.done there holds.doing calls calls' told told' q says.0 e refl), (omega (arith, within)), write_said (supply_from supply n) T Ids Later old new log log' wire U U' bytes (wrote.Failed e) polled holds.sound.between p.done there holds.doing calls calls' told told' q says.0 e refl, write_lays (supply_from supply n) T Ids Later old new log log' wire U U' bytes (wrote.Failed e) polled holds.sound.between p.done there holds.doing calls calls' told told' q says.0 e refl, write_kept (supply_from supply n) T Ids Later old new log log' wire U U' bytes (wrote.Failed e) polled holds.sound.between p.done there holds.doing calls calls' told told' q says.0);
           extends = extends_going q (suc p.done) (suc p.done) (length calls) (length calls') refl (write_room (supply_from supply n) T Ids Later old new log log' wire U U' bytes (wrote.Failed e) polled holds.sound.between p.done there holds.doing calls calls' told told' q says.0);
           adds = write_adds (supply_from supply n) T Ids Later old new log log' wire U U' bytes (wrote.Failed e) polled holds.sound.between p.done there holds.doing calls calls' told told' q says.0;
         };
@@ -145,7 +145,7 @@ module _ (p : PutPlayer) (going going' : Going) (bytes : List ℕ) (there : slic
   write_waits_comes before now leaves pended = (
     true,
     pended.1,
-    λ calls k last at. (at.0, omega (arith, at.1), subst (λ (d : Doing). IsPutDoing d p.done (length p.what.pieces.now)) (sym leaves.2) (omega (arith, within_now)), pended.0),
+    λ calls k last at. (at.0, omega (arith, at.1), subst (λ (d : Doing). IsPutDoing d p.done (length p.what.pieces.now)) (sym leaves.2) (omega (arith, within_now)), pended.0, λ still. absurd cc),
   )
 
   pub write_done_comes : (before now : ℕ) → (upload_of going'.upload).doing ≡ idle → now ≡ before → PutGoes before now (record p { stage = puts.Goes going }) (record p { stage = puts.Goes going'; done = p.done + 1 })
@@ -157,12 +157,13 @@ module _ (p : PutPlayer) (going going' : Going) (bytes : List ℕ) (there : slic
       omega (arith, at.1),
       subst (λ (d : Doing). IsPutDoing d (p.done + 1) (length p.what.pieces.now)) (sym rests) (omega (arith, within_now)),
       subst (λ (d : Doing). HoldsIf false (ticket_by d)) (sym rests) refl,
+      λ still. rests,
     ),
   )
 
 -- one that has failed had a turn that did not pend
 pub fails_comes : (p : PutPlayer) (going : Going) (e : Error) (before now : ℕ) → now ≡ before → PutGoes before now (record p { stage = puts.Goes going }) (record p { stage = puts.Ended (ended.Failed e) })
-fails_comes p going e before now same = (false, same, λ calls k last at. (omega (arith, at.1), refl))
+fails_comes p going e before now same = (false, same, λ calls k last at. (inr (omega (arith, at.1)), refl))
 
 -- ---- a close
 
@@ -208,7 +209,7 @@ module _ (moment : ℤ) (p : PutPlayer) (going going' : Going) (old new : Awaite
         record {
           longer = close_room (supply_from supply n) Task Source Source' moment may old new log log' wire V V' end.Pending polled holds.sound.between p.done all holds.doing calls calls' told told' q says.0;
           places = going_on q (length calls) (length calls');
-          tells = (close_waits (supply_from supply n) Task Source Source' moment may old new log log' wire V V' end.Pending polled holds.sound.between p.done all holds.doing calls calls' told told' q says.0 refl, length_is ∙ says.1);
+          tells = (close_waits (supply_from supply n) Task Source Source' moment may old new log log' wire V V' end.Pending polled holds.sound.between p.done all holds.doing calls calls' told told' q says.0 sound.between.rests_so refl, length_is ∙ says.1);
           extends = extends_going q (suc p.done) (suc p.done) (length calls) (length calls') refl (close_room (supply_from supply n) Task Source Source' moment may old new log log' wire V V' end.Pending polled holds.sound.between p.done all holds.doing calls calls' told told' q says.0);
           adds = close_adds (supply_from supply n) Task Source Source' moment may old new log log' wire V V' end.Pending polled holds.sound.between p.done all holds.doing calls calls' told told' q says.0;
         };
@@ -225,7 +226,7 @@ module _ (moment : ℤ) (p : PutPlayer) (going going' : Going) (old new : Awaite
         record {
           longer = close_room (supply_from supply n) Task Source Source' moment may old new log log' wire V V' end.Done polled holds.sound.between p.done all holds.doing calls calls' told told' q says.0;
           places = going_on q (length calls) (length calls');
-          tells = (says.0.opened, says.0.counted, (says.1 ∙ sym (joined_total (Task).pieces), says.0.sized, close_done (supply_from supply n) Task Source Source' moment may old new log log' wire V V' end.Done polled holds.sound.between p.done all holds.doing calls calls' told told' q says.0 refl), all_made, close_said_done (supply_from supply n) Task Source Source' moment may old new log log' wire V V' end.Done polled holds.sound.between p.done all holds.doing calls calls' told told' q says.0 going.length refl, close_lays_done (supply_from supply n) Task Source Source' moment may old new log log' wire V V' end.Done polled holds.sound.between p.done all holds.doing calls calls' told told' q says.0 refl);
+          tells = (says.0.opened, says.0.counted, (says.1 ∙ sym (joined_total (Task).pieces), says.0.sized, close_done (supply_from supply n) Task Source Source' moment may old new log log' wire V V' end.Done polled holds.sound.between p.done all holds.doing calls calls' told told' q says.0 refl), all_made, close_said_done (supply_from supply n) Task Source Source' moment may old new log log' wire V V' end.Done polled holds.sound.between p.done all holds.doing calls calls' told told' q says.0 going.length refl, close_lays_done (supply_from supply n) Task Source Source' moment may old new log log' wire V V' end.Done polled holds.sound.between p.done all holds.doing calls calls' told told' q says.0 refl, close_kept (supply_from supply n) Task Source Source' moment may old new log log' wire V V' end.Done polled holds.sound.between p.done all holds.doing calls calls' told told' q says.0);
           extends = extends_going q (suc p.done) (suc p.done) (length calls) (length calls') refl (close_room (supply_from supply n) Task Source Source' moment may old new log log' wire V V' end.Done polled holds.sound.between p.done all holds.doing calls calls' told told' q says.0);
           adds = close_adds (supply_from supply n) Task Source Source' moment may old new log log' wire V V' end.Done polled holds.sound.between p.done all holds.doing calls calls' told told' q says.0;
         };
@@ -242,7 +243,7 @@ module _ (moment : ℤ) (p : PutPlayer) (going going' : Going) (old new : Awaite
         record {
           longer = close_room (supply_from supply n) Task Source Source' moment may old new log log' wire V V' (end.Failed e) polled holds.sound.between p.done all holds.doing calls calls' told told' q says.0;
           places = going_on q (length calls) (length calls');
-          tells = (says.0.opened, says.0.counted, inr (says.0.sized, close_fails (supply_from supply n) Task Source Source' moment may old new log log' wire V V' (end.Failed e) polled holds.sound.between p.done all holds.doing calls calls' told told' q says.0 e refl, close_clears (supply_from supply n) Task Source Source' moment may old new log log' wire V V' (end.Failed e) polled holds.sound.between p.done all holds.doing calls calls' told told' q says.0 e refl), tt, close_said_fails (supply_from supply n) Task Source Source' moment may old new log log' wire V V' (end.Failed e) polled holds.sound.between p.done all holds.doing calls calls' told told' q says.0 e refl, close_lays_fails (supply_from supply n) Task Source Source' moment may old new log log' wire V V' (end.Failed e) polled holds.sound.between p.done all holds.doing calls calls' told told' q says.0 e refl);
+          tells = (says.0.opened, says.0.counted, inr (says.0.sized, close_fails (supply_from supply n) Task Source Source' moment may old new log log' wire V V' (end.Failed e) polled holds.sound.between p.done all holds.doing calls calls' told told' q says.0 e refl, close_clears (supply_from supply n) Task Source Source' moment may old new log log' wire V V' (end.Failed e) polled holds.sound.between p.done all holds.doing calls calls' told told' q says.0 e refl), (let made = all_made in omega (arith, made)), close_said_fails (supply_from supply n) Task Source Source' moment may old new log log' wire V V' (end.Failed e) polled holds.sound.between p.done all holds.doing calls calls' told told' q says.0 e refl, close_lays_fails (supply_from supply n) Task Source Source' moment may old new log log' wire V V' (end.Failed e) polled holds.sound.between p.done all holds.doing calls calls' told told' q says.0 e refl, close_kept (supply_from supply n) Task Source Source' moment may old new log log' wire V V' (end.Failed e) polled holds.sound.between p.done all holds.doing calls calls' told told' q says.0);
           extends = extends_going q (suc p.done) (suc p.done) (length calls) (length calls') refl (close_room (supply_from supply n) Task Source Source' moment may old new log log' wire V V' (end.Failed e) polled holds.sound.between p.done all holds.doing calls calls' told told' q says.0);
           adds = close_adds (supply_from supply n) Task Source Source' moment may old new log log' wire V V' (end.Failed e) polled holds.sound.between p.done all holds.doing calls calls' told told' q says.0;
         };
@@ -256,7 +257,7 @@ module _ (p : PutPlayer) (going going' : Going) (all : length (pieces p.what.pie
   close_waits_comes before now leaves pended = (
     true,
     pended.1,
-    λ calls k last at. (at.0, omega (arith, at.1), subst (λ (d : Doing). IsPutDoing d p.done (length p.what.pieces.now)) (sym leaves.1) made_now, pended.0),
+    λ calls k last at. (at.0, omega (arith, at.1), subst (λ (d : Doing). IsPutDoing d p.done (length p.what.pieces.now)) (sym leaves.1) made_now, pended.0, λ still. absurd cc),
   )
 
   pub close_done_comes : (before now : ℕ) → now ≡ before → PutGoes before now (record p { stage = puts.Goes going }) (record p { stage = puts.Ended (ended.Gave going.length) })

@@ -1,5 +1,5 @@
 -- A turn of a put whose upload is open, as one of its kind.
-use Rattle.std.proofs.Common.{◌≡◌, ◌+◌, ℕ, ℤ, false, length, Result, Ok, Err, refl, sym, ap, subst, arith}
+use Rattle.std.proofs.Common.{◌≡◌, ◌+◌, ℕ, ℤ, false, length, Result, Ok, Err, refl, sym, ap, subst, inl, inr, arith}
 use Rattle.mg_link.specs.Acts.{IsOut}
 use Rattle.mg_link.specs.Link.{Awaited, LogTold}
 use Rattle.mg_link.specs.declared.error.Error.{Error}
@@ -57,14 +57,15 @@ opens_at t begun (puts.Goes going) calls done count k opens same none first =
       omega (arith, none, first),
       subst (λ (d : uploads.Doing). IsPutDoing d done count) (sym rest) (omega (arith, none)),
       subst (λ (d : uploads.Doing). HoldsIf false (uploads.ticket_by d)) (sym rest) refl,
+      λ still. rest,
     )
 opens_at t begun (puts.Ended ended.Unfinished) calls done count k opens same none first = absurd opens
 opens_at t begun (puts.Ended (ended.Gave n)) calls done count k opens same none first = absurd opens
-opens_at t begun (puts.Ended (ended.Failed e)) calls done count k opens same none first = (omega arith, refl)
+opens_at t begun (puts.Ended (ended.Failed e)) calls done count k opens same none first = (inl (none, omega arith), refl)
 
 opens_from_at : (t : PutTask) (begun : Result Beginning Error) (s : PutStage) (calls done count k : ℕ) → OpensFrom t begun s → count ≡ calls → done ≡ 0 → k ≡ 0 → PutAt calls s done count (k + 1) false
 opens_from_at t (Ok begun) s calls done count k opens same none first = opens_at t begun s calls done count k opens same none first
-opens_from_at t (Err e) s calls done count k opens same none first = subst (λ (x : PutStage). PutAt calls x done count (k + 1) false) (sym opens) (omega arith, refl)
+opens_from_at t (Err e) s calls done count k opens same none first = subst (λ (x : PutStage). PutAt calls x done count (k + 1) false) (sym opens) (inl (none, omega arith), refl)
 
 pub opening_comes : (before : ℕ) (t : PutTask) (p : PutPlayer) (begun : Result Beginning Error) (s : PutStage) → puts.Begins begun ≡ p.stage → OpensFrom t begun s → PutGoes before before p (record p { stage = s })
 opening_comes before t p begun s is opens = (
@@ -95,10 +96,11 @@ pub undrawn_comes : (before : ℕ) (p r : PutPlayer) → puts.Undrawn ≡ p.stag
 undrawn_comes before p r is = (false, refl, λ calls k last at. absurd (subst (λ (s : PutStage). PutReady calls s p.done (length p.what.pieces.now) k last) (sym is) at))
 
 -- one that has ended stays so
-over_on : (e : Ended ℕ) (count k : ℕ) → PutOver e count k → PutOver e count (k + 1)
-over_on ended.Unfinished count k over = over
-over_on (ended.Gave n) count k over = omega (arith, over)
-over_on (ended.Failed e) count k over = omega (arith, over)
+over_on : (e : Ended ℕ) (done count k : ℕ) → PutOver e done count k → PutOver e done count (k + 1)
+over_on ended.Unfinished done count k over = over
+over_on (ended.Gave n) done count k over = omega (arith, over)
+over_on (ended.Failed e) done count k (inl first) = inl (first.0, (let some = first.1 in omega (arith, some)))
+over_on (ended.Failed e) done count k (inr more) = inr (omega (arith, more))
 
 pub ended_comes : (before : ℕ) (p r : PutPlayer) (e : Ended ℕ) → puts.Ended e ≡ p.stage → r ≡ p → PutGoes before before p r
 ended_comes before p r e was is =
@@ -107,5 +109,5 @@ ended_comes before p r e was is =
       refl,
       λ calls k last at.
           let over = subst (λ (s : PutStage). PutReady calls s p.done (length p.what.pieces.now) k last) (sym was) at in
-          subst (λ (s : PutStage). PutAt calls s p.done (length p.what.pieces.now) (k + 1) false) was (over_on e calls k over, refl),
+          subst (λ (s : PutStage). PutAt calls s p.done (length p.what.pieces.now) (k + 1) false) was (over_on e p.done calls k over, refl),
     )

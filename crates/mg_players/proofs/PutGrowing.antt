@@ -8,7 +8,7 @@ use Rattle.mg_server.proofs.Calls.{same_keeps}
 use Rattle.mg_server.proofs.Pasts.{request_fails_grows}
 use Rattle.mg_gridfs.specs.Uploads.{Doing, Phase, begins, busy, checks, closed, ends, fills, idle, inserts, lands, lasts, records, removes, rests, undoes}
 use Rattle.mg_players.specs.PutSends as put_sends
-use Rattle.mg_players.specs.PutSends.{Around, DoingSent, HoldsError, IsErrorBehind, ListsSome, NeedsNoCheck, PhaseSent, PutSends, SentAll, SentChunks, SentFor, SentUntil, file_chunks, record_insert}
+use Rattle.mg_players.specs.PutSends.{Around, DoingSent, HoldsError, IsErrorBehind, ListsSome, NeedsNoCheck, PhaseSent, PutSends, Reach, SentAll, SentChunks, SentFor, SentUntil, file_chunks, record_insert}
 use Rattle.mg_players.specs.Puts.{PutTask, Supply, put_bucket}
 use Rattle.mg_players.proofs.JustGrown.{GrowsBehind}
 use Rattle.mg_players.proofs.PutHeard.{passes_grow, sends_grow, sent_at_grows}
@@ -69,25 +69,25 @@ module _ (past past' : Past) (grows : Grows past past') (supply : Supply) (t : P
   error_grows upto moment e (put_sends.by_chunks none from command newest failed) = put_sends.by_chunks none from command newest (request_fails_grows past past' grows command false (ListsSome (length newest.piece)) e failed)
   error_grows upto moment e (put_sends.by_record m is failed) = put_sends.by_record m is (request_fails_grows past past' grows (record_insert t m) false (ListsSome 1) e failed)
 
-  holds_grows : (upto : ℕ) (moment : Option ℤ) (error : Option Error) → HoldsError supply t past upto moment error → HoldsError supply t past' upto moment error
-  holds_grows upto moment None h = h
-  holds_grows upto moment (Some e) h = error_grows upto moment e h
+  holds_grows : (R : Reach) (upto : ℕ) (moment : Option ℤ) (error : Option Error) → HoldsError supply t R past upto moment error → HoldsError supply t R past' upto moment error
+  holds_grows R upto moment None h = h
+  holds_grows R upto moment (Some e) h = (error_grows upto moment e h.0, h.1)
 
 -- ---- by both
 
-module _ (ever ever' : Past) (wider : GrowsBehind ever ever') (past past' : Past) (grows : Grows past past') (supply : Supply) (t : PutTask) where
+module _ (ever ever' : Past) (wider : GrowsBehind ever ever') (past past' : Past) (grows : Grows past past') (supply : Supply) (t : PutTask) (R : Reach) where
   -- the way back
-  until_grows : (commands : List Fields) (error : Option Error) (removed : Bool) → SentUntil supply t ever past commands error removed → SentUntil supply t ever' past' commands error removed
+  until_grows : (commands : List Fields) (error : Option Error) (removed : Bool) → SentUntil supply t R ever past commands error removed → SentUntil supply t R ever' past' commands error removed
   unfolding put_grows
   until_grows commands error removed s = record {
     upto = s.upto;
     moment = s.moment;
     sends = put_grows ever ever' wider supply t commands s.upto s.moment removed s.sends;
     behind = λ full. passes_grow ever ever' wider (put_bucket t) s.sends.check (s.behind full);
-    holds = holds_grows past past' grows supply t s.upto s.moment error s.holds;
+    holds = holds_grows past past' grows supply t R s.upto s.moment error s.holds;
   }
 
-  pub phase_grows : (commands : List Fields) (checked : Bool) (sent : ℕ) (p : Phase) → PhaseSent supply t ever past commands checked sent p → PhaseSent supply t ever' past' commands checked sent p
+  pub phase_grows : (commands : List Fields) (checked : Bool) (sent : ℕ) (p : Phase) → PhaseSent supply t R ever past commands checked sent p → PhaseSent supply t R ever' past' commands checked sent p
   phase_grows commands checked sent begins h = h
   phase_grows commands checked sent (checks c) h = (sent_at_grows ever ever' wider (put_bucket t) commands c h.0, h.1)
   phase_grows commands checked sent fills h = chunks_grow ever ever' wider supply t commands true sent h
@@ -102,9 +102,9 @@ module _ (ever ever' : Past) (wider : GrowsBehind ever ever') (past past' : Past
   phase_grows commands checked sent (lands flight error) h = h
   phase_grows commands checked sent (undoes error) h = until_grows commands error false h
   phase_grows commands checked sent (removes s error) h =
-      (h.0, around_so s.stage (SentUntil supply t ever past commands error false) (SentUntil supply t ever past commands error true) (SentUntil supply t ever' past' commands error false) (SentUntil supply t ever' past' commands error true) (until_grows commands error false) (until_grows commands error true) h.1)
+      (h.0, around_so s.stage (SentUntil supply t R ever past commands error false) (SentUntil supply t R ever past commands error true) (SentUntil supply t R ever' past' commands error false) (SentUntil supply t R ever' past' commands error true) (until_grows commands error false) (until_grows commands error true) h.1)
 
-  pub doing_grows : (commands : List Fields) (checked : Bool) (sent : ℕ) (d : Doing) → DoingSent supply t ever past commands checked sent d → DoingSent supply t ever' past' commands checked sent d
+  pub doing_grows : (commands : List Fields) (checked : Bool) (sent : ℕ) (d : Doing) → DoingSent supply t R ever past commands checked sent d → DoingSent supply t R ever' past' commands checked sent d
   doing_grows commands checked sent idle h = chunks_grow ever ever' wider supply t commands checked sent h
   doing_grows commands checked sent (busy call p) h = phase_grows commands checked sent p h
   doing_grows commands checked sent closed h = tt

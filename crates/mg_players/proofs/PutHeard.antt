@@ -1,5 +1,5 @@
 -- What a put heard of its check goes on to hold at a later time.
-use Rattle.std.proofs.Common.{◌≡◌, ◌≢◌, ℕ, ℤ, Bool, true, false, List, inl, inr}
+use Rattle.std.proofs.Common.{◌≡◌, ◌≢◌, ℕ, ℤ, Bool, true, false, List, [], ◌∷◌, inl, inr}
 use Rattle.mg_bson.specs.Tree.{Fields, Items, no_items}
 use Rattle.mg_server.specs.Calls.{Grows, Past}
 use Rattle.mg_link.specs.Exec.{Sending}
@@ -16,11 +16,12 @@ use Rattle.mg_gridfs.specs.Checks.{CheckTurned, ChecksOn, ClientCheck, Creates, 
 use Rattle.mg_gridfs.specs.Commands.{any_lines, index_lines}
 use Rattle.mg_gridfs.specs.declared.indexes.Place.{Place}
 use Rattle.mg_gridfs.specs.declared.indexes.Place.TheVariants as place
-use Rattle.mg_players.specs.PutChecks.{AsksForList, CheckPasses, CheckSends, CheckSentAt, SendsBefore, SendsBehind, SendsCreation, SendsIndex, SendsList, SendsPart, SendsWhole, count_at, to_creation, to_find, to_index, to_list, to_listing, to_part}
+use Rattle.mg_players.specs.PutChecks.{AreGetMores, AsksForList, CheckPasses, CheckSends, CheckSentAt, IsGetMore, SendsBefore, SendsBehind, SendsCreation, SendsIndex, SendsList, SendsPart, SendsWhole, count_at, to_creation, to_find, to_index, to_list, to_listing, to_part, where_missing}
 use Rattle.mg_players.specs.PutFailures.{HeardFind, HeardIndex, HeardIndexes, HeardNone, HeardSome, HeardWhole}
 use Rattle.mg_players.proofs.PutChecks.{AdvanceHeard, AnyHeard, CreatedHeard, CreationHeard, EndHeard, FindHeard, IndexHeard, IndexedHeard, StepHeard}
 use Rattle.mg_players.proofs.JustGrown.{GrowsBehind}
 use Rattle.mg_players.proofs.PutCreated.{creation_grows}
+use Rattle.mg_players.proofs.PutChecking.{told_as}
 use Rattle.mg_players.proofs.PutListing.{of_list_behind}
 
 module _ (past past' : Past) (grows : Grows past past') (b : ClientBucket) where
@@ -48,8 +49,22 @@ module _ (past past' : Past) (later : GrowsBehind past past') (b : ClientBucket)
   pub all_grows : (at : Place) (found : Bool) → HeardWhole past b at found → HeardWhole past' b at found
   all_grows at found h = record { created = creation_grows past past' grows b at h.created; listed = indexes_grow at found h.listed; made = λ missing. index_grows past past' grows b at (h.made missing) }
 
+  more_grows : (at : Place) (command : Fields) → IsGetMore past b at command → IsGetMore past' b at command
+  more_grows at command m = record { cursor = m.cursor; of_list = of_list_behind past past' later b m.cursor m.of_list; is_at = m.is_at; held = m.held; command_is = m.command_is }
+
+  -- getMores of its list
+  mores_grow : (at : Place) (commands : List Fields) → AreGetMores past b at commands → AreGetMores past' b at commands
+  mores_grow at [] are = tt
+  mores_grow at (command ∷ commands) are = (more_grows at command are.0, mores_grow at commands are.1)
+
+  list_grows : (at : Place) (commands : List Fields) → SendsList past b at commands → SendsList past' b at commands
+  list_grows at commands s = record { asked = s.asked; mores = s.mores; parts = s.parts; some = s.some; few = s.few; read_on = mores_grow at s.mores s.read_on }
+
+  ends_grow : (at : Place) (count : ℕ) (commands : List Fields) → SendsIndex past b at count commands → SendsIndex past' b at count commands
+  ends_grow at count commands s = record { list = s.list; parts = s.parts; listed = list_grows at s.list s.listed }
+
   whole_grows : (at : Place) (commands : List Fields) → SendsWhole past b at commands → SendsWhole past' b at commands
-  whole_grows at commands h = record { found = h.found; ends = h.ends; heard = all_grows at h.found h.heard }
+  whole_grows at commands h = record { found = h.found; ends = ends_grow at (where_missing h.found) commands h.ends; heard = all_grows at h.found h.heard }
 
   before_grows : (at : Place) (commands : List Fields) → SendsBefore past b at commands → SendsBefore past' b at commands
   before_grows place.Files commands h = (h.0, none_grows past past' grows b h.1)
@@ -64,8 +79,8 @@ module _ (past past' : Past) (later : GrowsBehind past past') (b : ClientBucket)
   any_part_grows : (at : Place) (commands : List Fields) → SendsPart past b at commands → SendsPart past' b at commands
   any_part_grows at commands (to_creation n few is) = to_creation n few is
   any_part_grows at commands (to_listing created n few is) = to_listing (creation_grows past past' grows b at created) n few is
-  any_part_grows at commands (to_list created list) = to_list (creation_grows past past' grows b at created) list
-  any_part_grows at commands (to_index created listed n few ends) = to_index (creation_grows past past' grows b at created) (indexes_grow at false listed) n few ends
+  any_part_grows at commands (to_list created list) = to_list (creation_grows past past' grows b at created) (list_grows at commands list)
+  any_part_grows at commands (to_index created listed n few ends) = to_index (creation_grows past past' grows b at created) (indexes_grow at false listed) n few (ends_grow at n commands ends)
 
   pub sends_grow : (commands : List Fields) → CheckSends past b commands → CheckSends past' b commands
   sends_grow commands (to_find count few is) = to_find count few is
@@ -79,8 +94,8 @@ module _ (past past' : Past) (later : GrowsBehind past past') (b : ClientBucket)
   sent_at_grows commands (finds s) h = h
   sent_at_grows commands (creates at s) h = behind_grows at (SendsCreation b at (count_at false s.stage)) commands h
   sent_at_grows commands (lists at s) h = (creation_grows past past' grows b at h.0, behind_grows at (AsksForList b at (count_at true s.stage)) commands h.1)
-  sent_at_grows commands (reads at cursor found count) h = (creation_grows past past' grows b at h.0, behind_grows at (SendsList b at) commands h.1)
-  sent_at_grows commands (indexes at s) h = (creation_grows past past' grows b at h.0, indexes_grow at false h.1, behind_grows at (SendsIndex b at (count_at false s.stage)) commands h.2)
+  sent_at_grows commands (reads at cursor found count) h = (creation_grows past past' grows b at h.0, part_grows at (SendsList past b at) (SendsList past' b at) (list_grows at) commands h.1)
+  sent_at_grows commands (indexes at s) h = (creation_grows past past' grows b at h.0, indexes_grow at false h.1, part_grows at (SendsIndex past b at (count_at false s.stage)) (SendsIndex past' b at (count_at false s.stage)) (ends_grow at (count_at false s.stage)) commands h.2)
 
   -- ---- what a step heard
 
@@ -128,5 +143,5 @@ module _ (past past' : Past) (later : GrowsBehind past past') (b : ClientBucket)
   step_grows old new log log' wire c r (by_find s is x runs hears) heard = find_grows x r hears heard
   step_grows old new log log' wire c r (by_creation k s is x runs hears) heard = asked_grows k x r hears heard
   step_grows old new log log' wire c r (by_listing k s is x runs hears) heard = tt
-  step_grows old new log log' wire c r (by_advance k cursor found count is empties starts left poll seeks hears) heard = advance_grows k found poll heard
+  step_grows old new log log' wire c r (by_advance k cursor found count is empties starts left poll seeks hears) heard = (advance_grows k found poll heard.0, told_as (IsGetMore past b k) (IsGetMore past' b k) (more_grows k) log log' heard.1)
   step_grows old new log log' wire c r (by_index k s is x runs hears) heard = made_grows k x r hears heard

@@ -54,12 +54,16 @@ module _ (t : PutTask) (calls calls' : List Call) (wire : ℤ) (places : List �
   own_back place call (inl of) there = (inl of, get_some calls place (in_log_at (length calls) places place within of))
   own_back place call (inr late) there = let less = get_within calls' place call there in absurd (omega (arith, late, less))
 
+  own_on : (place : ℕ) (call : Call) → IsOwn (past_of places (length calls) calls wire) place → slice_get calls place ≡ Some call → IsOwn (past_of places (length calls') calls' wire) place
+  own_on place call (inl of) there = inl of
+  own_on place call (inr late) there = let less = get_within calls place call there in absurd (omega (arith, late, less))
+
   pub doing_goes_on : (d : Doing) → DoingLays (past_of places (length calls) calls wire) t d → DoingLays (past_of places (length calls') calls' wire) t d
-  doing_goes_on d h = doing_later t (past_of places (length calls) calls wire) (past_of places (length calls') calls' wire) onward own_back d h
+  doing_goes_on d h = doing_later t (past_of places (length calls) calls wire) (past_of places (length calls') calls' wire) onward own_back own_on d h
 
   pub end_goes_on : EndLays (past_of places (length calls) calls wire) t → EndLays (past_of places (length calls') calls' wire) t
   end_goes_on (inl none) = inl none
-  end_goes_on (inr x) = inr (x.0, laid_later t (past_of places (length calls) calls wire) (past_of places (length calls') calls' wire) onward own_back x.1)
+  end_goes_on (inr x) = inr (x.0, laid_later t (past_of places (length calls) calls wire) (past_of places (length calls') calls' wire) onward own_back own_on x.1)
 
 -- ---- behind a poll
 
@@ -69,11 +73,15 @@ module _ (t : PutTask) (calls calls' : List Call) (wire : ℤ) (places places' :
   own_settled place call (inl of) there = (elim (settled.only place of) [ inl old ↦ inl old | inr new ↦ inr new.0 ], (call, there))
   own_settled place call (inr late) there = let less = get_within calls' place call there in absurd (omega (arith, late, less))
 
+  own_settles : (place : ℕ) (call : Call) → IsOwn (past_of places (length calls) calls' wire) place → slice_get calls' place ≡ Some call → IsOwn (past_of places' (length calls') calls' wire) place
+  own_settles place call (inl of) there = inl (settled.kept place of)
+  own_settles place call (inr late) there = inl (settled.added place late (get_within calls' place call there))
+
   pub doing_settles : (d : Doing) → DoingLays (past_of places (length calls) calls' wire) t d → DoingLays (past_of places' (length calls') calls' wire) t d
-  doing_settles d h = doing_later t (past_of places (length calls) calls' wire) (past_of places' (length calls') calls' wire) (onward_refl calls' nobody) own_settled d h
+  doing_settles d h = doing_later t (past_of places (length calls) calls' wire) (past_of places' (length calls') calls' wire) (onward_refl calls' nobody) own_settled own_settles d h
 
   pub laid_settles : LaysAll (past_of places (length calls) calls' wire) t → LaysAll (past_of places' (length calls') calls' wire) t
-  laid_settles h = laid_later t (past_of places (length calls) calls' wire) (past_of places' (length calls') calls' wire) (onward_refl calls' nobody) own_settled h
+  laid_settles h = laid_later t (past_of places (length calls) calls' wire) (past_of places' (length calls') calls' wire) (onward_refl calls' nobody) own_settled own_settles h
 
 -- ---- a put that has sent nothing
 

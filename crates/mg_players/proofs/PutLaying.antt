@@ -71,7 +71,7 @@ module _ (t : PutTask) (old new : Awaited) (log log' : LogTold) (s : Sending) (c
   sees_laid place seen sees calls' told' =
       let z = sees calls told in
       subst (λ (l : List Call). LaysAll (past_of places since l wire) t) (same_some (see z.0 seen calls) calls' (sym z.5 ∙ told'))
-      (laid_later t (past_of places since calls wire) (past_of places since (see z.0 seen calls) wire) (onward_seen z.0 seen calls z.1 nobody z.3 z.4) (λ at call own there. (let o = see_from z.0 seen calls at call there in (own, (o.0, o.1)))) lays)
+      (laid_later t (past_of places since calls wire) (past_of places since (see z.0 seen calls) wire) (onward_seen z.0 seen calls z.1 nobody z.3 z.4) (λ at call own there. (let o = see_from z.0 seen calls at call there in (own, (o.0, o.1)))) (λ at call own there. own) lays)
 
   stays_laid : log' ≡ log → Behind
   stays_laid same = same_log log log' calls places since wire (λ past. LaysAll past t) told same lays

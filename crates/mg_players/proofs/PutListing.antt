@@ -3,7 +3,8 @@ use Rattle.std.proofs.Common.{◌≡◌, ◌≢◌, ◌⊎◌, ◌<◌, ◌≤�
 use Rattle.std.specs.Ordering.{int_eq}
 use Rattle.std.specs.Prelude.{if◌then◌else◌, unwrap_or}
 use Rattle.mg_bson.specs.Raw.{fields}
-use Rattle.mg_server.specs.Calls.{Grows, Past, past_of}
+use Rattle.mg_bson.specs.Tree.{Fields}
+use Rattle.mg_server.specs.Calls.{AddsOnly, Grows, Keeps, Past, past_of}
 use Rattle.mg_link.specs.Errors.{plain}
 use Rattle.mg_link.specs.Exec.{Sending}
 use Rattle.mg_link.specs.Link.{Awaited, LogTold}
@@ -16,8 +17,10 @@ use Rattle.mg_link.specs.declared.error.Error.{Error}
 use Rattle.mg_link.specs.declared.error.ErrorKind.TheVariants as kind
 use Rattle.mg_link.specs.declared.pinned.PinnedConnection.{PinnedConnection}
 use Rattle.mg_link.specs.declared.pinned.PinnedConnection.TheVariants as connection
+use Rattle.mg_server.proofs.Adding.{adds_on}
 use Rattle.mg_server.proofs.Calls.{keeps_longer, keeps_on, same_keeps}
 use Rattle.mg_server.proofs.Filed.{Grew}
+use Rattle.mg_server.proofs.Owners.{same_some}
 use Rattle.mg_server.proofs.Pasts.{heard_at_grows, heard_reply}
 use Rattle.mg_link.proofs.Places.{get_within}
 use Rattle.mg_options.specs.Fields.{fields_in}
@@ -46,11 +49,14 @@ use Rattle.mg_cursor.proofs.SeekCaused.{fails_grow, underway_rest}
 use Rattle.mg_gridfs.specs.Buckets.{ClientBucket}
 use Rattle.mg_gridfs.specs.Commands.{listing_lines}
 use Rattle.mg_gridfs.specs.declared.indexes.Place.{Place}
+use Rattle.mg_players.specs.Gets.{no_manner}
 use Rattle.mg_players.specs.InTurn.{AreInTurn, NoneBehind, empty_by, empty_taken, empty_with, newest}
 use Rattle.mg_players.specs.PutFailures as fails
 use Rattle.mg_players.specs.PutFailures.{AreListedIndexes, IsListBatch, IsListedIndex, IsOfList, PutCheckFails, ReadsList, HeardList, brought, documents_by, documents_held, batch_documents, first_batch, held_by, its_documents, last_empty, next_batch}
+use Rattle.mg_players.specs.PutChecks.{IsGetMore}
 use Rattle.mg_players.proofs.InTurn.{BatchFrom, HeardLater, NextLater, all_taken, batch_from, came_later, empty_on, from_hand, from_reply, heard_on, more_grows, near, newest_on, pending_more, sends_one, turn_behind}
 use Rattle.mg_players.proofs.JustGrown.{GrowsBehind, GrowsJust, SendsNoMore, alone_at, alone_grows, just_behind, log_just, none_after}
+use Rattle.mg_players.proofs.PutChecking.{IsMoreBy, more_sends, opened_plainly}
 
 -- ---- a later time
 
@@ -440,3 +446,50 @@ module _ (b : ClientBucket) (wire : ℤ) (places : List ℕ) (since : ℕ) (k : 
       let room_on : since ≤ length x.0 = omega (arith, room, longer) in
       let y = seeks_list n more.0 new more.1 log' more.3 more.4 d' r (subst (SoundBy true more.4.cursor) (sym rested) tt) (subst (λ (s : Option Session). SeeksDocument n more.0 new more.1 log' wire s more.3 more.4 d' r) (none_session more.2) more.7) x.0 x.1 room_on (underway_rest more.0 past more.4.cursor rested) (counted_reads more.0 past d on.advanced more.4 x.3 on.few on.counts) in
       (y.0, y.1, keeps_on calls x.0 y.0 x.2 y.2, y.3)
+
+  -- ---- what it asks for
+
+  -- it has no options
+  turn_manner : (past : Past) (replies : List (ℕ × List ℕ)) (c c' : ClientCursor) (last : ℕ) → AreInTurn past c last replies c' → c'.manner ≡ c.manner
+  turn_manner past [] c c' last are = ap (λ (x : ClientCursor). x.manner) are
+  turn_manner past (h ∷ more) c c' last are = turn_manner past more (behind_reply are.5 c) c' h.0 are.7
+
+  list_manner : (past : Past) (c : ClientCursor) → IsOfList past b c → c.manner ≡ no_manner
+  list_manner past c l = turn_manner past l.replies (new_client l.out) (at_rest c) l.place l.behind ∙ opened_plainly l.first l.out l.opens
+
+  -- each command that was added reads this list on
+  abbrev MoresFrom : List Call → Past → Type 0
+  MoresFrom calls past = AddsOnly (IsGetMore past b k) calls past.calls
+
+  mores_as : (may might : Fields → Type 0) (calls calls' : List Call) → ((command : Fields) → may command → might command) → AddsOnly may calls calls' → AddsOnly might calls calls'
+  mores_as may might calls calls' so a = record { keeps = a.keeps; added = λ place call behind there. so (fields call.command) (a.added place call behind there) }
+
+  mores_later : (calls mid calls' : List Call) → Keeps mid calls' → AddsOnly (IsGetMore (past_of places since mid wire) b k) calls mid → AddsOnly (IsGetMore (past_of places since calls' wire) b k) calls mid
+  mores_later calls mid calls' keeps a =
+      mores_as (IsGetMore (past_of places since mid wire) b k) (IsGetMore (past_of places since calls' wire) b k) calls mid
+      (λ command m. record { cursor = m.cursor; of_list = of_list_grows (past_of places since mid wire) (past_of places since calls' wire) (log_just places since mid calls' wire keeps) b m.cursor m.of_list; is_at = m.is_at; held = m.held; command_is = m.command_is }) a
+
+  advance_asks : (old new : Awaited) (log log' : LogTold) (started : Bool) (d d' : DocumentCursor) (r : TryPoll) → IsSound true d.cursor → AdvancesOnce old new log log' wire None started d d' r → (calls : List Call) → log ≡ Some calls → (l : IsOfList (past_of places since calls wire) b d.cursor) → l.at ≡ k → Grew places since calls log' wire (MoresFrom calls)
+  advance_asks old new log log' started d d' r sound once calls told l at =
+      let past : Past = past_of places since calls wire in
+      let a = (more_sends old new log log' wire started d d' r sound (list_manner past d.cursor l) once).0 calls told in
+      let now : Past = past_of places since a.0 wire in
+      (a.0, a.1, a.2.keeps, mores_as (IsMoreBy d.cursor) (IsGetMore now b k) calls a.0 (λ command m. record { cursor = d.cursor; of_list = of_list_grows past now (log_just places since calls a.0 wire a.2.keeps) b d.cursor l; is_at = at; held = m.0; command_is = m.1 }) a.2)
+
+  -- A step that reads the list sends just such getMores.
+  pub seeks_asks : (n : ℕ) (old new : Awaited) (log log' : LogTold) (starts : ℕ) (d d' : DocumentCursor) (r : AdvancePoll) → IsSound true d.cursor → SeeksDocument n old new log log' wire None starts d d' r → (calls : List Call) → log ≡ Some calls → since ≤ length calls → IsUnderway old (past_of places since calls wire) d.cursor → ReadsList old (past_of places since calls wire) b d k given
+      → Grew places since calls log' wire (MoresFrom calls)
+  unfolding SeeksDocument
+  seeks_asks zero old new log log' starts d d' r sound last calls told room under l = advance_asks old new log log' last.started d last.advanced last.poll sound last.tries calls told l.of_list l.is_at
+  seeks_asks (suc n) old new log log' starts d d' r sound more calls told room under l =
+      let on = more.5 in
+      let a = advance_asks old more.0 log more.1 more.2 d on.advanced (try.Ready result.Waiting) sound on.tries calls told l.of_list l.is_at in
+      let x = advance_reads old more.0 log more.1 more.2 d on.advanced (try.Ready result.Waiting) sound on.tries calls told room under l in
+      let same : a.0 ≡ x.0 = same_some a.0 x.0 (sym a.1 ∙ x.1) in
+      let first : MoresFrom calls (past_of places since x.0 wire) = subst (λ (cs : List Call). MoresFrom calls (past_of places since cs wire)) same a.3 in
+      let past = past_of places since x.0 wire in
+      let rested : more.4.cursor.doing ≡ rests = ap (λ (y : DocumentCursor). y.cursor.doing) on.counts ∙ x.3.rested in
+      let longer = keeps_longer calls x.0 x.2 in
+      let room_on : since ≤ length x.0 = omega (arith, room, longer) in
+      let y = seeks_asks n more.0 new more.1 log' more.3 more.4 d' r (subst (SoundBy true more.4.cursor) (sym rested) tt) (subst (λ (s : Option Session). SeeksDocument n more.0 new more.1 log' wire s more.3 more.4 d' r) (none_session more.2) more.7) x.0 x.1 room_on (underway_rest more.0 past more.4.cursor rested) (counted_reads more.0 past d on.advanced more.4 x.3 on.few on.counts) in
+      (y.0, y.1, keeps_on calls x.0 y.0 x.2 y.2, adds_on (IsGetMore (past_of places since y.0 wire) b k) calls x.0 y.0 (mores_later calls x.0 y.0 y.2 first) y.3)

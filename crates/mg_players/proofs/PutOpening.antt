@@ -19,7 +19,7 @@ use Rattle.mg_gridfs.proofs.Staying.{cursors_begin}
 use Rattle.mg_script.specs.declared.outcome.Ended.{Ended}
 use Rattle.mg_script.specs.declared.outcome.Ended.TheVariants as ended
 use Rattle.mg_bson.specs.Tree.{Fields}
-use Rattle.mg_players.specs.Causes.{AreInLog, commands_at, sent_at}
+use Rattle.mg_players.specs.Causes.{AllWritten, AreInLog, commands_at, sent_at}
 use Rattle.mg_players.specs.Drawing.{supply_from}
 use Rattle.mg_players.specs.Headline.{PutPlays, put_task}
 use Rattle.mg_players.specs.Kept.{ids_left}
@@ -28,10 +28,10 @@ use Rattle.mg_players.specs.Putting.{Opens, OpensFrom, PutTurns}
 use Rattle.mg_players.specs.Puts.{BegunFor, ComeNext, IsPutDoing, NamesFiles, PutTask, PutsKnowing, Supply, put_aim, writes}
 use Rattle.mg_players.specs.Sends.{MaySend}
 use Rattle.mg_players.specs.PutSends as put_sends
-use Rattle.mg_players.specs.PutSends.{FailsSo, PutEndsSent, SentChunks}
+use Rattle.mg_players.specs.PutSends.{FailsSo, PutEndsSent, Reaches, SentChunks}
 use Rattle.mg_players.proofs.PutCommands.{sent_nothing}
 use Rattle.mg_players.proofs.PutLaid.{nothing_lays}
-use Rattle.mg_players.proofs.PutOrder.{none_some, unremoved}
+use Rattle.mg_players.proofs.PutOrder.{none_for}
 use Rattle.mg_players.proofs.PutSupplied.{next_as}
 use Rattle.mg_players.specs.Telling.{PutSaid, PutSays, PutTells, PutTellsOpen, SentNothing, put_number}
 use Rattle.mg_players.specs.declared.put.Beginning.{Beginning}
@@ -51,6 +51,10 @@ nowhere q nothing = only_now q nothing.0 nothing.1 ∙ nothing.2
 said_none : (calls : List Call) (q : Places) (P : List Fields → Type 0) → SentNothing q → P [] → PutSaid calls q P
 said_none calls q P nothing h = record { within = subst (AreInLog (length calls)) (sym (nowhere q nothing)) tt; ordered = λ k m of now. absurd (subst (λ (l : List ℕ). IsOf l m) nothing.2 now); sends = subst (λ (l : List ℕ). P (commands_at calls l)) (sym (nowhere q nothing)) h }
 
+-- and wrote no piece
+none_written : (supply : Supply) (t : PutTask) (calls : List Call) (q : Places) → SentNothing q → AllWritten supply t calls q.owns
+none_written supply t calls q nothing n less = (let count : length q.owns ≡ 0 = ap length nothing.1 in absurd (omega (arith, less, count)))
+
 -- an upload that has taken nothing tells of no places
 module _ (supply : Supply) (t : PutTask) (ids : ℕ → List ℕ) (next : ComeNext supply t ids 0) (awaited : Awaited) (calls : List Call) (wire : ℤ) (q : Places) (named : NamesFiles t) (sized : IsSize t.chunk) (nothing : SentNothing q) where
   fresh_knows : KnowsUpload awaited (sent_at (all_places q) calls wire) t.at (fresh_upload (put_aim t)) []
@@ -62,7 +66,11 @@ module _ (supply : Supply) (t : PutTask) (ids : ℕ → List ℕ) (next : ComeNe
     sized = sized;
     opened = nothing.0;
     counted = ap length nothing.1;
+    rests = λ still. (nothing.2, sized.some);
+    full = none_written supply t calls q nothing;
+    needs = λ is. absurd cc;
     cut = record { front = []; parts = refl; even = omega arith };
+    pauses = tt;
     underway = tt;
     flies = tt;
     supplied = next;
@@ -87,7 +95,7 @@ opens_tells supply t awaited calls wire q begun done (puts.Goes going) none is n
     (opened_tells supply t (ids_left going.ids) (next_as supply t (ids_left begun.ids) (ids_left going.ids) opens.4 0 is.1) awaited calls wire q opens.0 sized nothing (upload_of going.upload) done none opens.1, opens.3 ∙ is.0)
 opens_tells supply t awaited calls wire q begun done (puts.Ended ended.Unfinished) none is nothing opens = absurd opens
 opens_tells supply t awaited calls wire q begun done (puts.Ended (ended.Gave n)) none is nothing opens = absurd opens
-opens_tells supply t awaited calls wire q begun done (puts.Ended (ended.Failed e)) none is nothing opens = (nothing.0, ap length nothing.1 ∙ sym none, inl (opens, nowhere q nothing), tt, said_none calls q (λ commands. PutEndsSent supply t (sent_at (all_places q) calls wire) (sent_at q.now calls wire) commands (ended.Failed e)) nothing (unremoved supply t (sent_at (all_places q) calls wire) [] (FailsSo supply t (sent_at q.now calls wire) e) (λ upto moment. put_sends.not_opened refl opens) (none_some supply t (sent_at (all_places q) calls wire) [] refl)), inl (nowhere q nothing))
+opens_tells supply t awaited calls wire q begun done (puts.Ended (ended.Failed e)) none is nothing opens = (nothing.0, ap length nothing.1 ∙ sym none, inl (opens, nowhere q nothing), omega (arith, none), said_none calls q (λ commands. PutEndsSent supply t done (sent_at (all_places q) calls wire) (sent_at q.now calls wire) commands (ended.Failed e)) nothing (none_for supply t (sent_at (all_places q) calls wire) [] (λ upto moment removed. FailsSo supply t (sent_at q.now calls wire) e upto moment removed × Reaches t done upto moment) (put_sends.not_opened refl opens, λ less. (refl, omega arith)) refl), inl (nowhere q nothing), none_written supply t calls q nothing)
 
 module _ (awaited : Awaited) (log : LogTold) (wire moment : ℤ) (p : PutPlayer) (begun : Result Beginning Error) (none : p.done ≡ 0) where
   abbrev T : PutTask
@@ -152,4 +160,4 @@ pub opening_turns : (awaited : Awaited) (log : LogTold) (wire moment : ℤ) (p :
 opening_turns awaited log wire moment p (Ok begun) s none opens = opened_so awaited log wire moment p (Ok begun) none begun s (λ supply is. is) opens
 opening_turns awaited log wire moment p (Err e) s none opens =
     subst (λ (x : PutStage). PutTurns awaited awaited log log wire moment (record p { stage = puts.Begins (Err e) }) (record p { stage = x })) (sym opens)
-    (failed_so awaited log wire moment p (Err e) none (ended.Failed e) (λ supply calls q nothing is. (nothing.0, ap length nothing.1 ∙ sym none, inl (inl is, nowhere q nothing), tt, said_none calls q (λ commands. PutEndsSent supply (writes p.what) (sent_at (all_places q) calls wire) (sent_at q.now calls wire) commands (ended.Failed e)) nothing (unremoved supply (writes p.what) (sent_at (all_places q) calls wire) [] (FailsSo supply (writes p.what) (sent_at q.now calls wire) e) (λ upto moment. put_sends.not_opened refl (inl is)) (none_some supply (writes p.what) (sent_at (all_places q) calls wire) [] refl)), inl (nowhere q nothing))))
+    (failed_so awaited log wire moment p (Err e) none (ended.Failed e) (λ supply calls q nothing is. (nothing.0, ap length nothing.1 ∙ sym none, inl (inl is, nowhere q nothing), omega (arith, none), said_none calls q (λ commands. PutEndsSent supply (writes p.what) p.done (sent_at (all_places q) calls wire) (sent_at q.now calls wire) commands (ended.Failed e)) nothing (none_for supply (writes p.what) (sent_at (all_places q) calls wire) [] (λ upto moment removed. FailsSo supply (writes p.what) (sent_at q.now calls wire) e upto moment removed × Reaches (writes p.what) p.done upto moment) (put_sends.not_opened refl (inl is), λ less. (refl, omega arith)) refl), inl (nowhere q nothing), none_written supply (writes p.what) calls q nothing)))

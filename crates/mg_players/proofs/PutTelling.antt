@@ -35,7 +35,7 @@ use Rattle.mg_players.specs.Plays.{Places, all_places}
 use Rattle.mg_players.specs.PutFailures as fails
 use Rattle.mg_players.specs.PutFailures.{AnswersFirst, CheckReads, FailsEarly, FailsFirst, PhaseReads, PutCheckFails, PutFails, PutReads}
 use Rattle.mg_players.specs.PutSends as put_sends
-use Rattle.mg_players.specs.PutSends.{DoingSent, FailsSo, PutEndsSent, StopsSo, file_chunks}
+use Rattle.mg_players.specs.PutSends.{DoingSent, FailsSo, PutEndsSent, Reaches, StopsSo, file_chunks}
 use Rattle.mg_players.specs.Puts.{PutTask, Supply, joined, put_aim, put_bucket, puts_ticket, taken_in}
 use Rattle.mg_players.specs.Telling.{PutTells}
 use Rattle.mg_players.specs.declared.put.PutStage.{PutStage}
@@ -44,6 +44,7 @@ use Rattle.mg_players.proofs.PutLaid.{doing_goes_on, end_goes_on}
 use Rattle.mg_players.proofs.PutSaying.{said_kept}
 use Rattle.mg_players.proofs.PutChecked.{next_on}
 use Rattle.mg_players.proofs.PutCreated.{asks_grows, behind_grows, creation_grows}
+use Rattle.mg_players.proofs.PutFull.{full_later}
 use Rattle.mg_players.proofs.PutGrowing.{doing_grows, error_grows, put_grows}
 use Rattle.mg_players.proofs.PutHeard.{indexes_grow}
 use Rattle.mg_players.proofs.PutListing.{batch_grows, listed_grows, more_fails_grows, of_list_grows, reads_grows}
@@ -232,27 +233,31 @@ put_later supply t old new calls calls' wire q done (puts.Goes going) keeps onwa
         sized = told.0.sized;
         opened = told.0.opened;
         counted = told.0.counted;
+        rests = told.0.rests;
+        full = full_later supply t calls calls' q keeps told.0.said.within told.0.full;
+        needs = told.0.needs;
         cut = told.0.cut;
         flies = told.0.flies;
         supplied = told.0.supplied;
         its = told.0.its;
         reads = reads_on (sent_at q.now calls wire) (sent_at q.now calls' wire) (now_later calls calls' wire q keeps told.0.said.within) old new (put_bucket t) u.doing same told.0.reads;
+        pauses = told.0.pauses;
         underway = uploading_on (sent_at q.now calls wire) (sent_at q.now calls' wire) (grows_later q.now calls calls' wire keeps) old new u.aim u.doing same told.0.underway;
         knows = uploads_go_on old new calls calls' wire (all_places q) t.at u (taken_in u.doing t.pieces done) onward same told.0.knows;
-        said = (let s = said_kept calls calls' q (λ commands. DoingSent supply t (sent_at (all_places q) calls wire) (sent_at q.now calls wire) commands u.checked u.sent u.doing) keeps told.0.said in
-            record { within = s.within; ordered = s.ordered; sends = doing_grows (sent_at (all_places q) calls wire) (sent_at (all_places q) calls' wire) (later_behind (all_places q) calls calls' wire keeps) (sent_at q.now calls wire) (sent_at q.now calls' wire) (grows_later q.now calls calls' wire keeps) supply t (commands_at calls' (all_places q)) u.checked u.sent u.doing s.sends });
+        said = (let s = said_kept calls calls' q (λ commands. DoingSent supply t (Reaches t done) (sent_at (all_places q) calls wire) (sent_at q.now calls wire) commands u.checked u.sent u.doing) keeps told.0.said in
+            record { within = s.within; ordered = s.ordered; sends = doing_grows (sent_at (all_places q) calls wire) (sent_at (all_places q) calls' wire) (later_behind (all_places q) calls calls' wire keeps) (sent_at q.now calls wire) (sent_at q.now calls' wire) (grows_later q.now calls calls' wire keeps) supply t (Reaches t done) (commands_at calls' (all_places q)) u.checked u.sent u.doing s.sends });
         lays = doing_goes_on t calls calls' wire (all_places q) told.0.said.within onward u.doing told.0.lays;
       },
       told.1,
     )
 put_later supply t old new calls calls' wire q done (puts.Ended ended.Unfinished) keeps onward same told =
-    let s = said_kept calls calls' q (λ commands. PutEndsSent supply t (sent_at (all_places q) calls wire) (sent_at q.now calls wire) commands ended.Unfinished) keeps told.4 in
-    let for_it : StopsSo supply t (sent_at q.now calls' wire) s.sends.1.0 s.sends.1.1 s.sends.0 = λ is. (let why = s.sends.2 is in
+    let s = said_kept calls calls' q (λ commands. PutEndsSent supply t done (sent_at (all_places q) calls wire) (sent_at q.now calls wire) commands ended.Unfinished) keeps told.4 in
+    let for_it : StopsSo supply t (sent_at q.now calls' wire) s.sends.1.0 s.sends.1.1 s.sends.0 = λ is. (let why = s.sends.2.0 is in
     let grows = grows_later q.now calls calls' wire keeps in
     (why.0, fails_first_on (sent_at q.now calls wire) (sent_at q.now calls' wire) grows t why.0 why.1, error_grows (sent_at q.now calls wire) (sent_at q.now calls' wire) grows supply t s.sends.1.0 s.sends.1.1 why.0 why.2)) in
-    (told.0, told.1, told.2, told.3, record { within = s.within; ordered = s.ordered; sends = (s.sends.0, (s.sends.1.0, s.sends.1.1, put_grows (sent_at (all_places q) calls wire) (sent_at (all_places q) calls' wire) (later_behind (all_places q) calls calls' wire keeps) supply t (commands_at calls' (all_places q)) s.sends.1.0 s.sends.1.1 s.sends.0 s.sends.1.2), for_it) }, end_goes_on t calls calls' wire (all_places q) told.4.within onward told.5)
+    (told.0, told.1, told.2, told.3, record { within = s.within; ordered = s.ordered; sends = (s.sends.0, (s.sends.1.0, s.sends.1.1, put_grows (sent_at (all_places q) calls wire) (sent_at (all_places q) calls' wire) (later_behind (all_places q) calls calls' wire keeps) supply t (commands_at calls' (all_places q)) s.sends.1.0 s.sends.1.1 s.sends.0 s.sends.1.2), (for_it, s.sends.2.1)) }, end_goes_on t calls calls' wire (all_places q) told.4.within onward told.5, full_later supply t calls calls' q keeps told.4.within told.6)
 put_later supply t old new calls calls' wire q done (puts.Ended (ended.Gave n)) keeps onward same told =
-    (told.0, told.1, (told.2.0, told.2.1, stored_on calls calls' wire (all_places q) t.at (fresh_upload (put_aim t)) (joined t.pieces) onward told.2.2), told.3, (let s = said_kept calls calls' q (λ commands. PutEndsSent supply t (sent_at (all_places q) calls wire) (sent_at q.now calls wire) commands (ended.Gave n)) keeps told.4 in record { within = s.within; ordered = s.ordered; sends = (s.sends.0, put_grows (sent_at (all_places q) calls wire) (sent_at (all_places q) calls' wire) (later_behind (all_places q) calls calls' wire keeps) supply t (commands_at calls' (all_places q)) (length (file_chunks t)) (Some s.sends.0) false s.sends.1) }), end_goes_on t calls calls' wire (all_places q) told.4.within onward told.5)
+    (told.0, told.1, (told.2.0, told.2.1, stored_on calls calls' wire (all_places q) t.at (fresh_upload (put_aim t)) (joined t.pieces) onward told.2.2), told.3, (let s = said_kept calls calls' q (λ commands. PutEndsSent supply t done (sent_at (all_places q) calls wire) (sent_at q.now calls wire) commands (ended.Gave n)) keeps told.4 in record { within = s.within; ordered = s.ordered; sends = (s.sends.0, put_grows (sent_at (all_places q) calls wire) (sent_at (all_places q) calls' wire) (later_behind (all_places q) calls calls' wire keeps) supply t (commands_at calls' (all_places q)) (length (file_chunks t)) (Some s.sends.0) false s.sends.1) }), end_goes_on t calls calls' wire (all_places q) told.4.within onward told.5, full_later supply t calls calls' q keeps told.4.within told.6)
 put_later supply t old new calls calls' wire q done (puts.Ended (ended.Failed e)) keeps onward same told = (
   told.0,
   told.1,
@@ -261,9 +266,10 @@ put_later supply t old new calls calls' wire q done (puts.Ended (ended.Failed e)
     | inr fails ↦ inr (fails.0, fails_on (sent_at q.now calls wire) (sent_at q.now calls' wire) (now_later calls calls' wire q keeps told.4.within) t e fails.1, cleared_on calls calls' wire (all_places q) t.at (fresh_upload (put_aim t)) e onward fails.2)
   ],
   told.3,
-  (let s = said_kept calls calls' q (λ commands. PutEndsSent supply t (sent_at (all_places q) calls wire) (sent_at q.now calls wire) commands (ended.Failed e)) keeps told.4 in
-      record { within = s.within; ordered = s.ordered; sends = (s.sends.0, (s.sends.1.0, s.sends.1.1, put_grows (sent_at (all_places q) calls wire) (sent_at (all_places q) calls' wire) (later_behind (all_places q) calls calls' wire keeps) supply t (commands_at calls' (all_places q)) s.sends.1.0 s.sends.1.1 s.sends.0 s.sends.1.2), fails_so_on (sent_at q.now calls wire) (sent_at q.now calls' wire) (now_later calls calls' wire q keeps told.4.within) supply t e s.sends.1.0 s.sends.1.1 s.sends.0 s.sends.2) }),
+  (let s = said_kept calls calls' q (λ commands. PutEndsSent supply t done (sent_at (all_places q) calls wire) (sent_at q.now calls wire) commands (ended.Failed e)) keeps told.4 in
+      record { within = s.within; ordered = s.ordered; sends = (s.sends.0, (s.sends.1.0, s.sends.1.1, put_grows (sent_at (all_places q) calls wire) (sent_at (all_places q) calls' wire) (later_behind (all_places q) calls calls' wire keeps) supply t (commands_at calls' (all_places q)) s.sends.1.0 s.sends.1.1 s.sends.0 s.sends.1.2), (fails_so_on (sent_at q.now calls wire) (sent_at q.now calls' wire) (now_later calls calls' wire q keeps told.4.within) supply t e s.sends.1.0 s.sends.1.1 s.sends.0 s.sends.2.0, s.sends.2.1)) }),
   end_goes_on t calls calls' wire (all_places q) told.4.within onward told.5,
+  full_later supply t calls calls' q keeps told.4.within told.6,
 )
 
 -- It tells the same where it is supplied otherwise, unless it had a turn.

@@ -1,5 +1,5 @@
 -- What a put tells behind a poll of its upload.
-use Rattle.std.proofs.Common.{◌≡◌, ◌<◌, ◌≤◌, ◌+◌, ◌-◌, ◌++◌, Bool, ℕ, ℤ, List, [], ◌∷◌, length, length-append, take, Option, Some, refl, sym, ap, ◌∙◌, subst, inl, inr}
+use Rattle.std.proofs.Common.{◌≡◌, ◌<◌, ◌≤◌, ◌+◌, ◌-◌, ◌*◌, ◌++◌, Bool, true, ℕ, zero, suc, ℤ, List, [], ◌∷◌, length, length-append, take, Option, Some, None, refl, sym, ap, ◌∙◌, subst, inl, inr, arith}
 use Rattle.std.specs.Prelude.{slice_get}
 use Rattle.mg_link.specs.Acts.{Tickets}
 use Rattle.mg_server.specs.Calls.{AddsOnly, Past, past_of}
@@ -17,7 +17,7 @@ use Rattle.mg_gridfs.specs.Causes.{CloseCame, CloseCaused, IsUploading, Underway
 use Rattle.mg_gridfs.specs.Cursors.{LeavesOthers}
 use Rattle.mg_gridfs.specs.Laws.{IsSettled}
 use Rattle.mg_gridfs.specs.Storing.{AfterClose, AfterWrite, CloseStores, HasCleared, HasStored, KnowsUpload, WriteStores, may_leave, taken_by}
-use Rattle.mg_gridfs.specs.Uploads.{Aim, ClientUpload, Doing, IsBetween, close, closed, error_by, fresh_upload, idle, record_of, upload_ticket}
+use Rattle.mg_gridfs.specs.Uploads.{Aim, ClientUpload, Doing, IsBetween, RestsBy, busy, close, closed, error_by, fresh_upload, idle, record_of, upload_ticket, write}
 use Rattle.mg_gridfs.specs.declared.polls.Step2.{Step2}
 use Rattle.mg_gridfs.specs.declared.polls.Step2.TheVariants as end
 use Rattle.mg_gridfs.specs.declared.polls.WritePoll.{WritePoll}
@@ -27,23 +27,24 @@ use Rattle.mg_bson.specs.Tree.{Fields}
 use Rattle.mg_ops.specs.Drawn.{AreLater}
 use Rattle.mg_ops.specs.Logs.{AddsJust}
 use Rattle.mg_script.specs.declared.outcome.Ended.TheVariants as ended
-use Rattle.mg_players.specs.Causes.{commands_at, places_from, sent_at, sent_since}
+use Rattle.mg_players.specs.Causes.{AllWritten, commands_at, places_from, sent_at, sent_since}
 use Rattle.mg_players.specs.Laying.{DoingLays, EndLays, LaysAll}
 use Rattle.mg_players.specs.Plays.{Places, all_places}
 use Rattle.mg_players.specs.PutFailures.{AnswersPut, PutFails, PutReads}
-use Rattle.mg_players.specs.Puts.{CutBy, DoingSupplied, IsMoment, IsPutDoing, NamesFiles, PutTask, Supply, joined, put_aim, put_bucket, taken_in}
+use Rattle.mg_players.specs.Puts.{CutBy, DoingSupplied, IsCutAt, IsMoment, IsPutDoing, NamesFiles, NeedsFull, PutTask, Supply, joined, put_aim, put_bucket, taken_in, total}
 use Rattle.mg_players.specs.Sends.{IsPutCommand}
-use Rattle.mg_players.specs.PutSends.{DoingSent, FailsSo, PutEndsSent}
+use Rattle.mg_players.specs.PutSends.{DoingSent, FailsSo, PutEndsSent, Reach, Reaches}
 use Rattle.mg_players.specs.Telling.{CallsFollow, PutSaid, PutTellsOpen}
 use Rattle.mg_players.proofs.JustGrown.{GrowsBehind, SendsNoMore, ended_behind, ended_just}
-use Rattle.mg_players.proofs.PutOrder.{Reason}
+use Rattle.mg_players.proofs.PutOrder.{MayReach, Reason, cut_within}
 use Rattle.mg_players.proofs.PutOrdered.{CloseSaid, WriteSaid, close_grows, close_order, write_grows, write_order}
 use Rattle.mg_players.proofs.PutSaying.{going_ordered, now_last, said_more}
 use Rattle.mg_players.proofs.PutFailed.{CloseEnds, WriteEnds, close_ends, write_ends}
+use Rattle.mg_players.proofs.PutFull.{FullBy, full_later, full_more, write_full, written_full}
 use Rattle.mg_players.proofs.PutGrowing.{as_all_is, doing_grows}
 use Rattle.mg_players.proofs.PutLaid.{CloseLays, WriteLays, close_laid, doing_settles, laid_settles, names_of, write_laid}
 use Rattle.mg_players.proofs.PutPolled.{Ahead, AheadEnd, PollSent, close_sends, close_supplied, taken_on, taken_whole, takes_close, takes_write, write_sends, write_supplied}
-use Rattle.mg_players.proofs.PutSending.{Stands}
+use Rattle.mg_players.proofs.PutSending.{Stands, joined_total}
 use Rattle.mg_players.proofs.PutTelling.{cleared_settles, fails_on, fails_so_on, reads_on, stored_settles, uploading_on}
 use Rattle.mg_players.proofs.Telling.{answered_by, going_on, grows_ended, in_first, is_since, since_is}
 use Rattle.mg_players.proofs.Whole.{whole_answered, whole_going}
@@ -88,25 +89,27 @@ module _ (t : PutTask) (old new : Awaited) (log log' : LogTold) (wire : ℤ) (u 
   fails_behind room e fails = fails_on (past_of q.now From calls' wire) (sent_at (sent_since q.now From Upto) calls' wire) (now_ended room) t e fails
 
   -- and whether its chunks were removed then
-  so_behind : From ≤ Upto → (supply : Supply) (e : Error) (upto : ℕ) (moment : Option ℤ) (removed : Bool) → Reason q.now From wire log' supply t e upto moment removed → FailsSo supply t (sent_at (sent_since q.now From Upto) calls' wire) e upto moment removed
-  so_behind room supply e upto moment removed h =
-      fails_so_on (past_of q.now From calls' wire) (sent_at (sent_since q.now From Upto) calls' wire) (now_ended room) supply t e upto moment removed
-      (as_told (λ (l : List Call). FailsSo supply t (past_of q.now From l wire) e upto moment removed) h.0 h.1 h.2)
+  so_behind : From ≤ Upto → (supply : Supply) (R : Reach) (e : Error) (upto : ℕ) (moment : Option ℤ) (removed : Bool) → Reason q.now From wire log' supply t R e upto moment removed → FailsSo supply t (sent_at (sent_since q.now From Upto) calls' wire) e upto moment removed × R upto moment
+  so_behind room supply R e upto moment removed h = (
+    fails_so_on (past_of q.now From calls' wire) (sent_at (sent_since q.now From Upto) calls' wire) (now_ended room) supply t e upto moment removed
+        (as_told (λ (l : List Call). FailsSo supply t (past_of q.now From l wire) e upto moment removed) h.0 h.1 h.2),
+    h.3,
+  )
 
   -- what it sent
-  said_behind : (supply : Supply) (q' : Places) → PutSaid calls' q' (λ commands. DoingSent supply t (sent_at (all_places q') calls' wire) (past_of q.now From calls' wire) commands u'.checked u'.sent u'.doing) → PutSaid calls' q' (λ commands. DoingSent supply t (sent_at (all_places q') calls' wire) (sent_at (sent_since q.now From Upto) calls' wire) commands u'.checked u'.sent u'.doing)
-  said_behind supply q' s = record {
+  said_behind : (supply : Supply) (R : Reach) (q' : Places) → PutSaid calls' q' (λ commands. DoingSent supply t R (sent_at (all_places q') calls' wire) (past_of q.now From calls' wire) commands u'.checked u'.sent u'.doing) → PutSaid calls' q' (λ commands. DoingSent supply t R (sent_at (all_places q') calls' wire) (sent_at (sent_since q.now From Upto) calls' wire) commands u'.checked u'.sent u'.doing)
+  said_behind supply R q' s = record {
     within = s.within;
     ordered = s.ordered;
-    sends = doing_grows (sent_at (all_places q') calls' wire) (sent_at (all_places q') calls' wire) (as_all_is (sent_at (all_places q') calls' wire)) (past_of q.now From calls' wire) (sent_at (sent_since q.now From Upto) calls' wire) (grows_ended q.now From calls' wire) supply t (commands_at calls' (all_places q')) u'.checked u'.sent u'.doing s.sends;
+    sends = doing_grows (sent_at (all_places q') calls' wire) (sent_at (all_places q') calls' wire) (as_all_is (sent_at (all_places q') calls' wire)) (past_of q.now From calls' wire) (sent_at (sent_since q.now From Upto) calls' wire) (grows_ended q.now From calls' wire) supply t R (commands_at calls' (all_places q')) u'.checked u'.sent u'.doing s.sends;
   }
 
   -- where its call is done, that says nothing of the call
-  said_at_rest : (supply : Supply) (q' : Places) → u'.doing ≡ idle → PutSaid calls' q' (λ commands. DoingSent supply t (sent_at (all_places q') calls' wire) (past_of q.now From calls' wire) commands u'.checked u'.sent u'.doing) → PutSaid calls' q' (λ commands. DoingSent supply t (sent_at (all_places q') calls' wire) (sent_at [] calls' wire) commands u'.checked u'.sent u'.doing)
-  said_at_rest supply q' rests_so s =
+  said_at_rest : (supply : Supply) (R R' : Reach) (q' : Places) → u'.doing ≡ idle → PutSaid calls' q' (λ commands. DoingSent supply t R (sent_at (all_places q') calls' wire) (past_of q.now From calls' wire) commands u'.checked u'.sent u'.doing) → PutSaid calls' q' (λ commands. DoingSent supply t R' (sent_at (all_places q') calls' wire) (sent_at [] calls' wire) commands u'.checked u'.sent u'.doing)
+  said_at_rest supply R R' q' rests_so s =
       let commands : List Fields = commands_at calls' (all_places q') in
       let all : Past = sent_at (all_places q') calls' wire in
-      record { within = s.within; ordered = s.ordered; sends = subst (DoingSent supply t all (sent_at [] calls' wire) commands u'.checked u'.sent) (sym rests_so) (subst (DoingSent supply t all (past_of q.now From calls' wire) commands u'.checked u'.sent) rests_so s.sends) }
+      record { within = s.within; ordered = s.ordered; sends = subst (DoingSent supply t R' all (sent_at [] calls' wire) commands u'.checked u'.sent) (sym rests_so) (subst (DoingSent supply t R all (past_of q.now From calls' wire) commands u'.checked u'.sent) rests_so s.sends) }
 
   -- what it knows of the list that it reads
   reads_behind : From ≤ Upto → PutReads new (past_of q.now From calls' wire) (put_bucket t) u'.doing → PutReads new (sent_at (sent_since q.now From Upto) calls' wire) (put_bucket t) u'.doing
@@ -151,6 +154,43 @@ write_leaves u u' e made count doing within same (inr (kept, inr refused)) = abs
 close_leaves : (u u' : ClientUpload) (e : Error) (made count : ℕ) → IsPutDoing u.doing made count → u' ≡ u → LeavesEnd close u u' (end.Failed e) → may_leave e.kind
 close_leaves u u' e made count doing same (inl over) = absurd (still_open u u' made count doing same over)
 close_leaves u u' e made count doing same (inr left) = absurd (takes_close u.doing made count doing left.1)
+
+-- ---- how far it may come
+
+total_more : (pieces : List (List ℕ)) (n : ℕ) → total (take n pieces) ≤ total (take (suc n) pieces)
+total_more [] zero = omega arith
+total_more [] (suc n) = omega arith
+total_more (p ∷ ps) zero = omega arith
+total_more (p ∷ ps) (suc n) = let more = total_more ps n in omega (arith, more)
+
+less_by : (a b c d : ℕ) → a ≤ b → b ≡ c → c ≤ d → a ≤ d
+less_by a b c d within same more = omega (arith, within, same, more)
+
+-- a write sends only full chunks of the pieces up to its own
+near_write : (t : PutTask) (made upto : ℕ) → upto * t.chunk ≤ length (joined (take (made + 1) t.pieces)) → Reaches t made upto None
+near_write t made upto within = λ less.
+    let next : made + 1 ≡ suc made = omega arith in
+    let bytes : length (joined (take (made + 1) t.pieces)) ≡ total (take (suc made) t.pieces) = joined_total (take (made + 1) t.pieces) ∙ ap (λ (n : ℕ). total (take n t.pieces)) next in
+    (refl, subst (λ (n : ℕ). upto * t.chunk ≤ n) bytes within)
+
+-- of a close nothing is asked
+far_close : (t : PutTask) (made : ℕ) → length t.pieces ≤ made → (upto : ℕ) (moment : Option ℤ) → Reaches t made upto moment
+far_close t made all upto moment = λ less. absurd (omega (arith, all, less))
+
+pub write_reach : (t : PutTask) (made piece : ℕ) → MayReach t (joined (take (made + 1) t.pieces)) (write piece) (Reaches t made)
+write_reach t made piece = record { chunks = near_write t made; all = λ bad. absurd cc }
+
+pub close_reach : (t : PutTask) (made : ℕ) → length t.pieces ≤ made → MayReach t (joined t.pieces) close (Reaches t made)
+close_reach t made all = record { chunks = λ upto within. far_close t made all upto None; all = λ is. far_close t made all }
+
+-- nor do the calls before it
+pub idle_near : (t : PutTask) (u : ClientUpload) (made : ℕ) → u.aim ≡ put_aim t → IsCutAt u (joined (take made t.pieces)) 0 → Reaches t made u.sent None
+idle_near t u made aim cut = λ less.
+    let before : (u.sent + 0) * t.chunk ≤ length (joined (take made t.pieces)) = cut_within t u (joined (take made t.pieces)) 0 aim cut in
+    let more : total (take made t.pieces) ≤ total (take (suc made) t.pieces) = total_more t.pieces made in
+    let bytes : length (joined (take made t.pieces)) ≡ total (take made t.pieces) = joined_total (take made t.pieces) in
+    let same : u.sent + 0 ≡ u.sent = omega arith in
+    (refl, subst (λ (n : ℕ). n * t.chunk ≤ total (take (suc made) t.pieces)) same (less_by ((u.sent + 0) * t.chunk) (length (joined (take made t.pieces))) (total (take made t.pieces)) (total (take (suc made) t.pieces)) before bytes more))
 
 -- ---- a write
 
@@ -197,19 +237,19 @@ module _ (supply : Supply) (t : PutTask) (ids later : ℕ → List ℕ) (old new
       as_told t old new log log' wire u u' calls calls' told' q (λ (l : List Call). WriteEnds t new u' r (past_of q.now (length calls) l wire)) w.0 w.1 w.3
 
   abbrev Why : Error → ℕ → Option ℤ → Bool → Type 0
-  Why = Reason q.now (length calls) wire log' supply t
+  Why = Reason q.now (length calls) wire log' supply t (Reaches t made)
 
-  ordered : (more : List Fields) × AddsJust log log' more × WriteSaid supply t (past_of (all_places q) (length calls) calls' wire) (past_of q.now (length calls) calls' wire) Why (commands_at calls (all_places q) ++ more) u' r
-  ordered = write_order supply t old new log log' wire ids polled.drawn polled.twelve u u' between tells.aim_is (commands_at calls (all_places q)) tells.supplied calls calls' told told' q.now (all_places q) (now_last calls q tells.said.within tells.said.ordered) tells.said.sends tells.underway (tells.its, tells.reads) bytes made there within doing tells.cut tells.flies r polled.does
+  ordered : (more : List Fields) × AddsJust log log' more × WriteSaid supply t (Reaches t made) (past_of (all_places q) (length calls) calls' wire) (past_of q.now (length calls) calls' wire) Why (commands_at calls (all_places q) ++ more) u' r
+  ordered = write_order supply t (Reaches t made) old new log log' wire ids polled.drawn polled.twelve u u' between tells.aim_is (commands_at calls (all_places q)) tells.supplied calls calls' told told' q.now (all_places q) (now_last calls q tells.said.within tells.said.ordered) tells.said.sends tells.underway (tells.its, tells.reads) bytes made there within doing tells.cut tells.flies (near_write t made) r polled.does
 
   -- so it has said behind it, by what it comes to
-  said_so : (q' : Places) → all_places q' ≡ sent_since (all_places q) (length calls) (length calls') → CallsFollow q' → (x : WritePoll) → r ≡ x → PutSaid calls' q' (λ commands. WriteSaid supply t (sent_at (all_places q') calls' wire) (past_of q.now (length calls) calls' wire) Why commands u' x)
+  said_so : (q' : Places) → all_places q' ≡ sent_since (all_places q) (length calls) (length calls') → CallsFollow q' → (x : WritePoll) → r ≡ x → PutSaid calls' q' (λ commands. WriteSaid supply t (Reaches t made) (sent_at (all_places q') calls' wire) (past_of q.now (length calls) calls' wire) Why commands u' x)
   said_so q' whole in_order x is =
       let now : Past = sent_at (all_places q') calls' wire in
       let its : Past = past_of q.now (length calls) calls' wire in
-      let on = write_grows (past_of (all_places q) (length calls) calls' wire) now (all_ended q q' (length calls) calls' wire write_room whole) supply t its Why (commands_at calls (all_places q) ++ ordered.0) u' r ordered.2 in
-      subst (λ (y : WritePoll). PutSaid calls' q' (λ commands. WriteSaid supply t now its Why commands u' y)) is
-      (said_more log log' calls calls' q q' (λ commands. DoingSent supply t (sent_at (all_places q) calls wire) (sent_at q.now calls wire) commands u.checked u.sent u.doing) (λ commands. WriteSaid supply t now its Why commands u' r) told told' write_adds.keeps whole in_order tells.said (ordered.0, ordered.1, on))
+      let on = write_grows (past_of (all_places q) (length calls) calls' wire) now (all_ended q q' (length calls) calls' wire write_room whole) supply t (Reaches t made) its Why (commands_at calls (all_places q) ++ ordered.0) u' r ordered.2 in
+      subst (λ (y : WritePoll). PutSaid calls' q' (λ commands. WriteSaid supply t (Reaches t made) now its Why commands u' y)) is
+      (said_more log log' calls calls' q q' (λ commands. DoingSent supply t (Reaches t made) (sent_at (all_places q) calls wire) (sent_at q.now calls wire) commands u.checked u.sent u.doing) (λ commands. WriteSaid supply t (Reaches t made) now its Why commands u' r) told told' write_adds.keeps whole in_order tells.said (ordered.0, ordered.1, on))
 
   still_ordered : CallsFollow (going_on q (length calls) (length calls'))
   still_ordered = going_ordered calls q tells.said.within tells.said.ordered (length calls') write_room
@@ -223,9 +263,16 @@ module _ (supply : Supply) (t : PutTask) (ids later : ℕ → List ℕ) (old new
   laid : WriteLays t u' r (past_of (all_places q) (length calls) calls' wire)
   laid = write_laid supply t old new log log' wire ids polled.drawn u u' between tells.aim_is named tells.supplied calls told (all_places q) tells.lays bytes made there within doing tells.cut tells.flies r polled.does calls' told'
 
+  -- what its calls before sent
+  pub write_kept : AllWritten supply t calls' q.owns
+  write_kept = full_later supply t calls calls' q write_adds.keeps tells.said.within tells.full
+
+  filled : FullBy t u'.checked (joined (take (made + 1) t.pieces)) r
+  filled = write_full t old new log log' wire ids polled.drawn u u' tells.aim_is bytes made there within doing tells.cut tells.needs r polled.does
+
   -- it waits for a reply
-  pub write_waits : r ≡ wrote.Pending → PutTellsOpen new calls' wire (going_on q (length calls) (length calls')) supply t later made u'
-  write_waits is =
+  pub write_waits : RestsBy u'.doing → r ≡ wrote.Pending → PutTellsOpen new calls' wire (going_on q (length calls) (length calls')) supply t later made u'
+  write_waits pauses is =
       let busy_so = subst (LeavesWrite u u') is polled.leaves in
       let taken : taken_in u'.doing t.pieces made ≡ joined (take (made + 1) t.pieces) = ap (λ (d : Doing). taken_in d t.pieces made) busy_so.2 in
       let stands = subst (λ (x : WritePoll). Ahead x (Stands supply t u' (joined (take (made + 1) t.pieces)) u'.doing)) is sent.stands in
@@ -234,7 +281,11 @@ module _ (supply : Supply) (t : PutTask) (ids later : ℕ → List ℕ) (old new
         sized = tells.sized;
         opened = tells.opened;
         counted = tells.counted;
+        rests = λ still. absurd (let bad : busy (write busy_so.0) busy_so.1 ≡ idle = sym busy_so.2 ∙ still in cc);
+        full = write_kept;
+        needs = subst (λ (d : Doing). NeedsFull t u'.checked d (taken_in d t.pieces made)) (sym busy_so.2) (subst (FullBy t u'.checked (joined (take (made + 1) t.pieces))) is filled);
         cut = subst (λ (l : List ℕ). CutBy u' l u'.doing) (sym taken) stands.0;
+        pauses = pauses;
         underway = underway_on t old new log log' wire u u' calls calls' told' q (subst (WriteCame new (past_of q.now (length calls) calls' wire) u u') is came);
         flies = stands.1;
         supplied = subst (λ (x : WritePoll). Ahead x (DoingSupplied supply t later u'.sent u'.doing)) is supplied;
@@ -242,23 +293,30 @@ module _ (supply : Supply) (t : PutTask) (ids later : ℕ → List ℕ) (old new
         reads = reads_behind t old new log log' wire u u' calls calls' told' q write_room (subst (λ (x : WritePoll). WriteEnds t new u' x (past_of q.now (length calls) calls' wire)) is ends_so).1;
         knows = knows_behind t old new log log' wire u u' calls calls' told' q (going_on q (length calls) (length calls')) (taken_by u.doing (taken_in u.doing t.pieces made) bytes) (taken_in u'.doing t.pieces made) write_room (whole_going q (length calls) (length calls')) (taken_so u'.doing made taken)
             (subst (AfterWrite new (past_of (all_places q) (length calls) calls' wire) t.at u u' (taken_in u.doing t.pieces made) bytes) is stored);
-        said = said_behind t old new log log' wire u u' calls calls' told' q supply (going_on q (length calls) (length calls')) (said_so (going_on q (length calls) (length calls')) (whole_going q (length calls) (length calls')) still_ordered wrote.Pending is);
+        said = said_behind t old new log log' wire u u' calls calls' told' q supply (Reaches t made) (going_on q (length calls) (length calls')) (said_so (going_on q (length calls) (length calls')) (whole_going q (length calls) (length calls')) still_ordered wrote.Pending is);
         lays = lays_behind t old new log log' wire u u' calls calls' told' q (going_on q (length calls) (length calls')) write_room (whole_going q (length calls) (length calls')) (subst (λ (x : WritePoll). WriteLays t u' x (past_of (all_places q) (length calls) calls' wire)) is laid);
       }
 
   -- one piece more is written
   pub write_done : (n : ℕ) → r ≡ wrote.Wrote n → PutTellsOpen new calls' wire (answered_by q (length calls) (length calls')) supply t later (made + 1) u'
   write_done n is =
-      let rests_so : u'.doing ≡ idle = (subst (LeavesWrite u u') is polled.leaves).0 in
+      let left : (u'.doing ≡ idle) × (length u'.behind < u'.aim.size) = subst (LeavesWrite u u') is polled.leaves in
+      let rests_so : u'.doing ≡ idle = left.0 in
       let taken : taken_in u'.doing t.pieces (made + 1) ≡ joined (take (made + 1) t.pieces) = ap (λ (d : Doing). taken_in d t.pieces (made + 1)) rests_so in
       let stands = subst (λ (x : WritePoll). Ahead x (Stands supply t u' (joined (take (made + 1) t.pieces)) u'.doing)) is sent.stands in
       let own : List ℕ = sent_since q.now (length calls) (length calls') in
+      let fills_so : u'.checked ≡ true → t.chunk ≤ length (joined (take (made + 1) t.pieces)) = subst (FullBy t u'.checked (joined (take (made + 1) t.pieces))) is filled in
+      let said_now = said_at_rest t old new log log' wire u u' calls calls' told' q supply (Reaches t made) (Reaches t (made + 1)) (answered_by q (length calls) (length calls')) rests_so (said_so (answered_by q (length calls) (length calls')) (whole_answered q (length calls) (length calls')) (λ k m before now. absurd now) (wrote.Wrote n) is) in
       record {
         aim_is = sent.aim_is;
         sized = tells.sized;
         opened = tells.opened;
         counted = length-append q.owns (own ∷ []) ∙ ap (λ (m : ℕ). m + 1) tells.counted;
+        rests = λ still. (refl, left.1);
+        full = full_more supply t calls' q.owns own write_kept (written_full supply t (Reaches t (made + 1)) (sent_at (all_places (answered_by q (length calls) (length calls'))) calls' wire) (sent_at [] calls' wire) calls' q own made u' tells.opened tells.counted rests_so sent.aim_is said_now.sends stands.0 left.1 fills_so);
+        needs = subst (λ (d : Doing). NeedsFull t u'.checked d (taken_in d t.pieces (made + 1))) (sym rests_so) fills_so;
         cut = subst (λ (l : List ℕ). CutBy u' l u'.doing) (sym taken) stands.0;
+        pauses = subst RestsBy (sym rests_so) tt;
         underway = subst (UnderwayBy new (sent_at [] calls' wire) u'.aim) (sym rests_so) tt;
         flies = stands.1;
         supplied = subst (λ (x : WritePoll). Ahead x (DoingSupplied supply t later u'.sent u'.doing)) is supplied;
@@ -266,7 +324,7 @@ module _ (supply : Supply) (t : PutTask) (ids later : ℕ → List ℕ) (old new
         reads = subst (PutReads new (sent_at [] calls' wire) (put_bucket t)) (sym rests_so) tt;
         knows = knows_behind t old new log log' wire u u' calls calls' told' q (answered_by q (length calls) (length calls')) (taken_by u.doing (taken_in u.doing t.pieces made) bytes) (taken_in u'.doing t.pieces (made + 1)) write_room (whole_answered q (length calls) (length calls')) (taken_so u'.doing (made + 1) taken)
             (subst (AfterWrite new (past_of (all_places q) (length calls) calls' wire) t.at u u' (taken_in u.doing t.pieces made) bytes) is stored);
-        said = said_at_rest t old new log log' wire u u' calls calls' told' q supply (answered_by q (length calls) (length calls')) rests_so (said_so (answered_by q (length calls) (length calls')) (whole_answered q (length calls) (length calls')) (λ k m before now. absurd now) (wrote.Wrote n) is);
+        said = said_now;
         lays = lays_behind t old new log log' wire u u' calls calls' told' q (answered_by q (length calls) (length calls')) write_room (whole_answered q (length calls) (length calls')) (subst (λ (x : WritePoll). WriteLays t u' x (past_of (all_places q) (length calls) calls' wire)) is laid);
       }
 
@@ -286,10 +344,10 @@ module _ (supply : Supply) (t : PutTask) (ids later : ℕ → List ℕ) (old new
       cleared_by (sent_at (all_places q') calls' wire) t u e tells.aim_is (cleared_settles calls calls' wire (all_places q) (all_places q') t.at u e (settled_all q q' (length calls) (length calls') write_room (whole_going q (length calls) (length calls'))) h)
 
   -- and it sent its commands in their order
-  pub write_said : (e : Error) → r ≡ wrote.Failed e → PutSaid calls' (going_on q (length calls) (length calls')) (λ commands. PutEndsSent supply t (sent_at (all_places (going_on q (length calls) (length calls'))) calls' wire) (sent_at (sent_since q.now (length calls) (length calls')) calls' wire) commands (ended.Failed e))
+  pub write_said : (e : Error) → r ≡ wrote.Failed e → PutSaid calls' (going_on q (length calls) (length calls')) (λ commands. PutEndsSent supply t made (sent_at (all_places (going_on q (length calls) (length calls'))) calls' wire) (sent_at (sent_since q.now (length calls) (length calls')) calls' wire) commands (ended.Failed e))
   write_said e is =
       let s = said_so (going_on q (length calls) (length calls')) (whole_going q (length calls) (length calls')) still_ordered (wrote.Failed e) is in
-      record { within = s.within; ordered = s.ordered; sends = (s.sends.0, s.sends.1, so_behind t old new log log' wire u u' calls calls' told' q write_room supply e s.sends.1.0 s.sends.1.1 s.sends.0 s.sends.2) }
+      record { within = s.within; ordered = s.ordered; sends = (s.sends.0, s.sends.1, so_behind t old new log log' wire u u' calls calls' told' q write_room supply (Reaches t made) e s.sends.1.0 s.sends.1.1 s.sends.0 s.sends.2) }
 
   -- and over all chunks only
   pub write_lays : (e : Error) → r ≡ wrote.Failed e → EndLays (sent_at (all_places (going_on q (length calls) (length calls'))) calls' wire) t
@@ -337,20 +395,20 @@ module _ (supply : Supply) (t : PutTask) (ids later : ℕ → List ℕ) (moment 
       as_told t old new log log' wire u u' calls calls' told' q (λ (l : List Call). CloseEnds t new u' r (past_of q.now (length calls) l wire)) w.0 w.1 w.3
 
   abbrev Reasons : Error → ℕ → Option ℤ → Bool → Type 0
-  Reasons = Reason q.now (length calls) wire log' supply t
+  Reasons = Reason q.now (length calls) wire log' supply t (Reaches t made)
 
-  end_ordered : (more : List Fields) × AddsJust log log' more × CloseSaid supply t (past_of (all_places q) (length calls) calls' wire) (past_of q.now (length calls) calls' wire) Reasons (commands_at calls (all_places q) ++ more) u' r
-  end_ordered = close_order supply t old new log log' wire ids polled.drawn polled.twelve u u' between tells.aim_is (commands_at calls (all_places q)) tells.supplied calls calls' told told' q.now (all_places q) (now_last calls q tells.said.within tells.said.ordered) tells.said.sends tells.underway (tells.its, tells.reads) made all doing tells.cut tells.flies moment its r polled.does
+  end_ordered : (more : List Fields) × AddsJust log log' more × CloseSaid supply t (Reaches t made) (past_of (all_places q) (length calls) calls' wire) (past_of q.now (length calls) calls' wire) Reasons (commands_at calls (all_places q) ++ more) u' r
+  end_ordered = close_order supply t (Reaches t made) old new log log' wire ids polled.drawn polled.twelve u u' between tells.aim_is (commands_at calls (all_places q)) tells.supplied calls calls' told told' q.now (all_places q) (now_last calls q tells.said.within tells.said.ordered) tells.said.sends tells.underway (tells.its, tells.reads) made all doing tells.cut tells.flies (far_close t made all) moment its r polled.does
 
-  end_said : (x : Step2) → r ≡ x → PutSaid calls' (going_on q (length calls) (length calls')) (λ commands. CloseSaid supply t (sent_at (all_places (going_on q (length calls) (length calls'))) calls' wire) (past_of q.now (length calls) calls' wire) Reasons commands u' x)
+  end_said : (x : Step2) → r ≡ x → PutSaid calls' (going_on q (length calls) (length calls')) (λ commands. CloseSaid supply t (Reaches t made) (sent_at (all_places (going_on q (length calls) (length calls'))) calls' wire) (past_of q.now (length calls) calls' wire) Reasons commands u' x)
   end_said x is =
       let q' : Places = going_on q (length calls) (length calls') in
       let now : Past = sent_at (all_places q') calls' wire in
       let its : Past = past_of q.now (length calls) calls' wire in
       let whole = whole_going q (length calls) (length calls') in
-      let on = close_grows (past_of (all_places q) (length calls) calls' wire) now (all_ended q q' (length calls) calls' wire close_room whole) supply t its Reasons (commands_at calls (all_places q) ++ end_ordered.0) u' r end_ordered.2 in
-      subst (λ (y : Step2). PutSaid calls' q' (λ commands. CloseSaid supply t now its Reasons commands u' y)) is
-      (said_more log log' calls calls' q q' (λ commands. DoingSent supply t (sent_at (all_places q) calls wire) (sent_at q.now calls wire) commands u.checked u.sent u.doing) (λ commands. CloseSaid supply t now its Reasons commands u' r) told told' close_adds.keeps whole (going_ordered calls q tells.said.within tells.said.ordered (length calls') close_room) tells.said (end_ordered.0, end_ordered.1, on))
+      let on = close_grows (past_of (all_places q) (length calls) calls' wire) now (all_ended q q' (length calls) calls' wire close_room whole) supply t (Reaches t made) its Reasons (commands_at calls (all_places q) ++ end_ordered.0) u' r end_ordered.2 in
+      subst (λ (y : Step2). PutSaid calls' q' (λ commands. CloseSaid supply t (Reaches t made) now its Reasons commands u' y)) is
+      (said_more log log' calls calls' q q' (λ commands. DoingSent supply t (Reaches t made) (sent_at (all_places q) calls wire) (sent_at q.now calls wire) commands u.checked u.sent u.doing) (λ commands. CloseSaid supply t (Reaches t made) now its Reasons commands u' r) told told' close_adds.keeps whole (going_ordered calls q tells.said.within tells.said.ordered (length calls') close_room) tells.said (end_ordered.0, end_ordered.1, on))
 
   end_taken : taken_in u.doing t.pieces made ≡ joined t.pieces
   end_taken = taken_whole u.doing t.pieces made doing all
@@ -363,9 +421,13 @@ module _ (supply : Supply) (t : PutTask) (ids later : ℕ → List ℕ) (moment 
       let knows : KnowsUpload old (sent_at (all_places q) calls wire) t.at u (joined t.pieces) = subst (KnowsUpload old (sent_at (all_places q) calls wire) t.at u) end_taken tells.knows in
       close_laid supply t old new log log' wire ids polled.drawn u u' between tells.aim_is end_named tells.supplied calls told (all_places q) tells.lays made all doing tells.cut tells.flies knows moment its r polled.does calls' told'
 
+  -- what its calls before sent
+  pub close_kept : AllWritten supply t calls' q.owns
+  close_kept = full_later supply t calls calls' q close_adds.keeps tells.said.within tells.full
+
   -- it waits for a reply
-  pub close_waits : r ≡ end.Pending → PutTellsOpen new calls' wire (going_on q (length calls) (length calls')) supply t later made u'
-  close_waits is =
+  pub close_waits : RestsBy u'.doing → r ≡ end.Pending → PutTellsOpen new calls' wire (going_on q (length calls) (length calls')) supply t later made u'
+  close_waits pauses is =
       let busy_so = subst (LeavesEnd close u u') is polled.leaves in
       let taken : taken_in u'.doing t.pieces made ≡ joined t.pieces = ap (λ (d : Doing). taken_in d t.pieces made) busy_so.1 in
       let stands = subst (λ (x : Step2). AheadEnd x (Stands supply t u' (joined t.pieces) u'.doing)) is end_sent.stands in
@@ -374,7 +436,11 @@ module _ (supply : Supply) (t : PutTask) (ids later : ℕ → List ℕ) (moment 
         sized = tells.sized;
         opened = tells.opened;
         counted = tells.counted;
+        rests = λ still. absurd (let bad : busy close busy_so.0 ≡ idle = sym busy_so.1 ∙ still in cc);
+        full = close_kept;
+        needs = subst (λ (d : Doing). NeedsFull t u'.checked d (taken_in d t.pieces made)) (sym busy_so.1) tt;
         cut = subst (λ (l : List ℕ). CutBy u' l u'.doing) (sym taken) stands.0;
+        pauses = pauses;
         underway = underway_on t old new log log' wire u u' calls calls' told' q (subst (CloseCame new (past_of q.now (length calls) calls' wire) u u') is end_came);
         flies = stands.1;
         supplied = subst (λ (x : Step2). AheadEnd x (DoingSupplied supply t later u'.sent u'.doing)) is end_supplied;
@@ -382,7 +448,7 @@ module _ (supply : Supply) (t : PutTask) (ids later : ℕ → List ℕ) (moment 
         reads = reads_behind t old new log log' wire u u' calls calls' told' q close_room (subst (λ (x : Step2). CloseEnds t new u' x (past_of q.now (length calls) calls' wire)) is closed_so).1;
         knows = knows_behind t old new log log' wire u u' calls calls' told' q (going_on q (length calls) (length calls')) (taken_in u.doing t.pieces made) (taken_in u'.doing t.pieces made) close_room (whole_going q (length calls) (length calls')) (end_taken ∙ sym taken)
             (subst (AfterClose new (past_of (all_places q) (length calls) calls' wire) t.at u u' (taken_in u.doing t.pieces made)) is end_stored);
-        said = said_behind t old new log log' wire u u' calls calls' told' q supply (going_on q (length calls) (length calls')) (end_said end.Pending is);
+        said = said_behind t old new log log' wire u u' calls calls' told' q supply (Reaches t made) (going_on q (length calls) (length calls')) (end_said end.Pending is);
         lays = lays_behind t old new log log' wire u u' calls calls' told' q (going_on q (length calls) (length calls')) close_room (whole_going q (length calls) (length calls')) (subst (λ (x : Step2). CloseLays t u' x (past_of (all_places q) (length calls) calls' wire)) is end_laid);
       }
 
@@ -411,13 +477,13 @@ module _ (supply : Supply) (t : PutTask) (ids later : ℕ → List ℕ) (moment 
       cleared_by (sent_at (all_places q') calls' wire) t u e tells.aim_is (cleared_settles calls calls' wire (all_places q) (all_places q') t.at u e (settled_all q q' (length calls) (length calls') close_room (whole_going q (length calls) (length calls'))) h)
 
   -- it sent its commands in their order
-  pub close_said_done : (n : ℕ) → r ≡ end.Done → PutSaid calls' (going_on q (length calls) (length calls')) (λ commands. PutEndsSent supply t (sent_at (all_places (going_on q (length calls) (length calls'))) calls' wire) (sent_at (sent_since q.now (length calls) (length calls')) calls' wire) commands (ended.Gave n))
+  pub close_said_done : (n : ℕ) → r ≡ end.Done → PutSaid calls' (going_on q (length calls) (length calls')) (λ commands. PutEndsSent supply t made (sent_at (all_places (going_on q (length calls) (length calls'))) calls' wire) (sent_at (sent_since q.now (length calls) (length calls')) calls' wire) commands (ended.Gave n))
   close_said_done n is = end_said end.Done is
 
-  pub close_said_fails : (e : Error) → r ≡ end.Failed e → PutSaid calls' (going_on q (length calls) (length calls')) (λ commands. PutEndsSent supply t (sent_at (all_places (going_on q (length calls) (length calls'))) calls' wire) (sent_at (sent_since q.now (length calls) (length calls')) calls' wire) commands (ended.Failed e))
+  pub close_said_fails : (e : Error) → r ≡ end.Failed e → PutSaid calls' (going_on q (length calls) (length calls')) (λ commands. PutEndsSent supply t made (sent_at (all_places (going_on q (length calls) (length calls'))) calls' wire) (sent_at (sent_since q.now (length calls) (length calls')) calls' wire) commands (ended.Failed e))
   close_said_fails e is =
       let s = end_said (end.Failed e) is in
-      record { within = s.within; ordered = s.ordered; sends = (s.sends.0, s.sends.1, so_behind t old new log log' wire u u' calls calls' told' q close_room supply e s.sends.1.0 s.sends.1.1 s.sends.0 s.sends.2) }
+      record { within = s.within; ordered = s.ordered; sends = (s.sends.0, s.sends.1, so_behind t old new log log' wire u u' calls calls' told' q close_room supply (Reaches t made) e s.sends.1.0 s.sends.1.1 s.sends.0 s.sends.2) }
 
   -- and its record over all chunks only
   pub close_lays_done : r ≡ end.Done → EndLays (sent_at (all_places (going_on q (length calls) (length calls'))) calls' wire) t

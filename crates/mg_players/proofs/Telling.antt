@@ -1,5 +1,5 @@
 -- What a follow tells goes on to hold, turn by turn.
-use Rattle.std.proofs.Common.{◌≡◌, ◌⊎◌, ◌+◌, ◌-◌, ◌≤◌, ◌<◌, ℕ, zero, suc, ℤ, Bool, true, List, [], ◌∷◌, ◌++◌, length, Option, Some, None, refl, sym, ap, ◌∙◌, subst, inl, inr, arith, length-append}
+use Rattle.std.proofs.Common.{◌≡◌, ◌⊎◌, ◌+◌, ◌≤◌, ℕ, zero, suc, ℤ, Bool, true, List, [], ◌∷◌, ◌++◌, length, Option, Some, None, refl, sym, ap, ◌∙◌, subst, inl, inr, arith, length-append}
 use Rattle.std.specs.Prelude.{◌↔◌, IsSome, IsTrue, slice_get}
 use Rattle.mg_bson.specs.Tree.{Fields, Tree}
 use Rattle.mg_server.specs.Calls.{Grows, Keeps, Past, past_of, AddsOnly}
@@ -11,20 +11,16 @@ use Rattle.mg_link.specs.declared.action.Step.{Step}
 use Rattle.mg_link.specs.declared.action.Step.TheVariants as step
 use Rattle.mg_link.specs.declared.error.Error.{Error}
 use Rattle.mg_link.specs.declared.error.ErrorKind.TheVariants as kind
-use Rattle.mg_server.proofs.Calls.{keeps_longer, same_keeps}
-use Rattle.mg_link.proofs.Places.{get_within}
+use Rattle.mg_server.proofs.Calls.{keeps_longer}
 use Rattle.mg_ops.specs.declared.change_stream.WatchArgs.{WatchArgs}
 use Rattle.mg_change.specs.Causes.{CallCame, CallCaused, Called, SoFar}
-use Rattle.mg_change.specs.ClientOpenings.{ClientOpening, OpensStream}
-use Rattle.mg_change.specs.ClientStreams.{ClientStream, IsAlive, IsBetween, IsSound, stream_ticket, stream_token}
+use Rattle.mg_change.specs.ClientOpenings.{ClientOpening, OpensStream, first_aggregate}
+use Rattle.mg_change.specs.ClientStreams.{ClientStream, IsAlive, IsBetween, IsSound, resuming_in, stream_ticket, stream_token}
 use Rattle.mg_change.specs.ClosingCauses.{LastSoFar}
 use Rattle.mg_change.specs.ClosingStreams.{ClosesStream, ClosingStream, closed_stream, handed_over}
-use Rattle.mg_change.specs.OpenedStreams.{IsOpening}
 use Rattle.mg_change.specs.OpeningCauses.{StreamOpened, OpeningCaused, OpeningFails, OpensSoFar}
 use Rattle.mg_change.specs.OpeningView.{IsPlainOpening, opening_of}
-use Rattle.mg_change.specs.Sent as calling
-use Rattle.mg_change.specs.Sent.{CallSent, IsSentAt, KillsReplaced, PollKills, places_behind, opening_places}
-use Rattle.mg_change.specs.StreamCalls.{CallCopies, event_ending}
+use Rattle.mg_change.specs.StreamCalls.{CallCopies}
 use Rattle.mg_change.specs.StreamView.{IsPlainStream, stream_of}
 use Rattle.mg_change.specs.declared.event_poll.EventPoll.{EventPoll}
 use Rattle.mg_change.specs.declared.event_poll.EventPoll.TheVariants as polls
@@ -33,8 +29,8 @@ use Rattle.mg_change.specs.declared.stream.ChangeStream.{ChangeStream}
 use Rattle.mg_change.proofs.ClosingCauses.{LastCame, last_closes, last_done_grows, last_fails_grows, last_grows}
 use Rattle.mg_change.proofs.OpeningCauses.{opened_grows, opening_fails_grows, opens_grows}
 use Rattle.mg_change.proofs.Resting.{opening_args}
-use Rattle.mg_change.proofs.Sent.{falling_as, replaced_grows, same_at}
-use Rattle.mg_players.specs.Causes.{Answered, CallFalls, ClosedBy, FallsAt, KillsLast, commands_at, places_from, sent_at, sent_since}
+use Rattle.mg_change.specs.Calling.{CallSends, OpensFar}
+use Rattle.mg_players.specs.Causes.{Answered, ClosedBy, FallsAt, KillsLast, sent_at, sent_since}
 use Rattle.mg_players.specs.Sends.{IsCommandOf}
 use Rattle.mg_players.specs.Follows.{HasGiven, Placing, poll_of, same_place}
 use Rattle.mg_players.specs.Playing.{stage_ticket}
@@ -48,105 +44,31 @@ use Rattle.mg_players.specs.declared.follow.Stage.{Stage}
 use Rattle.mg_players.specs.declared.follow.Stage.TheVariants as stage
 use Rattle.mg_players.specs.declared.follow.Watched.{Watched}
 use Rattle.mg_server.proofs.Adding.{adds_none, adds_on}
-use Rattle.mg_players.proofs.Commands.{began_as, falls_later, falls_more, falls_none}
-use Rattle.mg_players.proofs.Fallings.{closing_falls, closing_left, kill_of, opening_falls, opening_left}
+use Rattle.mg_change.proofs.Calling.{BehindOpening, begins_sent, opening_sends, opens_far_later, request_later, sends_later, sent_later}
+use Rattle.mg_change.proofs.CallSends.{BehindPoll, poll_sends}
+use Rattle.mg_players.proofs.Commands.{falls_later, falls_more, falls_none}
+use Rattle.mg_players.proofs.Fallings.{closing_falls, closing_left, kill_of}
+pub use Rattle.mg_change.proofs.Grown.{from_is, grows_ended, grows_later, in_either, in_first, in_second, is_since, since_is}
 use Rattle.mg_players.proofs.Lasting.{Lasts}
 use Rattle.mg_players.proofs.Later.{begins, called_grows, last_begins, so_far_grows}
-use Rattle.mg_players.proofs.Left.{held_few, landing_few}
+use Rattle.mg_players.proofs.Left.{landing_few}
 use Rattle.mg_turns.proofs.OwnTickets.{none_is_not}
 use Rattle.mg_players.proofs.Sending.{calls_such, closing_such, opening_such}
 use Rattle.mg_players.proofs.Sends.{for_answered, for_opened, for_so_far, such_adds}
 use Rattle.mg_players.proofs.Whole.{only_now, since_on, whole_answered, whole_going, whole_opened, whole_same}
-
--- ---- places
-
-is_from : (at n place : ℕ) → IsOf (places_from at n) place → (at ≤ place) × (place < at + n)
-is_from at zero place of = absurd of
-is_from at (suc n) place (inl e) = (omega (arith, e), omega (arith, e))
-is_from at (suc n) place (inr of) = let r = is_from (suc at) n place of in let low = r.0 in let high = r.1 in (omega (arith, low), omega (arith, high))
-
-at_or_behind : (a b : ℕ) → a ≤ b → (a ≡ b) ⊎ (suc a ≤ b)
-at_or_behind zero zero h = inl refl
-at_or_behind zero (suc b) h = inr (omega arith)
-at_or_behind (suc a) zero h = absurd (omega arith)
-at_or_behind (suc a) (suc b) h = elim (at_or_behind a b (omega arith)) [ inl e ↦ inl (ap suc e) | inr behind ↦ inr (omega (arith, behind)) ]
-
-pub from_is : (at n place : ℕ) → at ≤ place → place < at + n → IsOf (places_from at n) place
-from_is at zero place low high = absurd (omega arith)
-from_is at (suc n) place low high = elim (at_or_behind at place low) [ inl e ↦ inl e | inr behind ↦ inr (from_is (suc at) n place behind (omega arith)) ]
-
-pub in_first : {A : Type 0} (xs ys : List A) (x : A) → IsOf xs x → IsOf (xs ++ ys) x
-in_first [] ys x of = absurd of
-in_first (y ∷ xs) ys x (inl e) = inl e
-in_first (y ∷ xs) ys x (inr of) = inr (in_first xs ys x of)
-
-pub in_second : {A : Type 0} (xs ys : List A) (x : A) → IsOf ys x → IsOf (xs ++ ys) x
-in_second [] ys x of = of
-in_second (y ∷ xs) ys x of = inr (in_second xs ys x of)
-
-pub in_either : {A : Type 0} (xs ys : List A) (x : A) → IsOf (xs ++ ys) x → IsOf xs x ⊎ IsOf ys x
-in_either [] ys x of = inr of
-in_either (y ∷ xs) ys x (inl e) = inl (inl e)
-in_either (y ∷ xs) ys x (inr of) = elim (in_either xs ys x of) [ inl a ↦ inl (inr a) | inr b ↦ inr b ]
-
-pub since_is : (places : List ℕ) (from upto place : ℕ) → from ≤ upto → IsOf (sent_since places from upto) place → IsOf places place ⊎ ((from ≤ place) × (place < upto))
-since_is places from upto place room of =
-    elim (in_either places (places_from from (upto - from)) place of) [
-      | inl before ↦ inl before
-      | inr now ↦ let r = is_from from (upto - from) place now in let low = r.0 in let high = r.1 in inr (low, omega (arith, high, room))
-    ]
-
-pub is_since : (places : List ℕ) (from upto place : ℕ) → from ≤ place → place < upto → IsOf (sent_since places from upto) place
-is_since places from upto place low high = in_second places (places_from from (upto - from)) place (from_is from (upto - from) place low (omega arith))
-
--- ---- logs
-
--- what was sent at these places is told so by a later log
-pub grows_later : (places : List ℕ) (calls calls' : List Call) (wire : ℤ) → Keeps calls calls' → Grows (sent_at places calls wire) (sent_at places calls' wire)
-grows_later places calls calls' wire keeps =
-    record {
-      own = λ place call there own. elim own [ inl of ↦ inl of | inr beyond ↦ absurd (let within = get_within calls place call there in omega (arith, beyond, within)) ];
-      keeps = keeps;
-      wire = refl;
-    }
-
--- what a poll sent is told by the places from which on it sent
-pub grows_ended : (places : List ℕ) (since : ℕ) (calls : List Call) (wire : ℤ) → Grows (past_of places since calls wire) (sent_at (sent_since places since (length calls)) calls wire)
-grows_ended places since calls wire =
-    record {
-      own = λ place call there own. elim own [
-        | inl of ↦ inl (in_first places (places_from since (length calls - since)) place of)
-        | inr low ↦ inl (is_since places since (length calls) place low (get_within calls place call there))
-      ];
-      keeps = same_keeps calls;
-      wire = refl;
-    }
-
--- ---- what calls kill
-
--- it stays told
-falls_grown : (past past' : Past) → Grows past past' → (calls : List Call) (at : ClientStream) (own : List ℕ) (m : ℕ) → FallsAt (IsSentAt (KillsReplaced past true at) at) calls (calling.places at) own m → FallsAt (IsSentAt (KillsReplaced past' true at) at) calls (calling.places at) own m
-falls_grown past past' grows calls at own m f =
-    let now = KillsReplaced past true at in
-    let such = KillsReplaced past' true at in
-    record { within = f.within; falling = falling_as (IsSentAt such at) (IsSentAt now at) (same_at such now (replaced_grows past past' grows true at) at at refl refl) (calling.places at) (commands_at calls own) m f.falling }
-
-call_falls_later : (places : List ℕ) (calls calls' : List Call) (wire : ℤ) (at : ClientStream) (m : ℕ) → Keeps calls calls' → CallFalls calls wire at places m → CallFalls calls' wire at places m
-call_falls_later places calls calls' wire at m keeps f =
-    falls_later (IsSentAt (KillsReplaced (sent_at places calls' wire) true at) at) calls calls' (calling.places at) places m keeps (falls_grown (sent_at places calls wire) (sent_at places calls' wire) (grows_later places calls calls' wire keeps) calls at places m f)
 
 -- ---- answered calls
 
 pub answered_later : (calls calls' : List Call) (wire : ℤ) → Keeps calls calls' → (owns : List (List ℕ)) (said : List Answer) (first last : ClientStream) → Answered calls wire first owns said last → Answered calls' wire first owns said last
 answered_later calls calls' wire keeps [] [] first last a = a
 answered_later calls calls' wire keeps (places ∷ owns) (answer ∷ said) first last a =
-    (a.0, called_grows (sent_at places calls wire) (sent_at places calls' wire) (grows_later places calls calls' wire keeps) None first a.0 (poll_of answer) a.1, answered_later calls calls' wire keeps owns said a.0 last a.2, call_falls_later places calls calls' wire first 0 keeps a.3)
+    (a.0, called_grows (sent_at places calls wire) (sent_at places calls' wire) (grows_later places calls calls' wire keeps) None first a.0 (poll_of answer) a.1, answered_later calls calls' wire keeps owns said a.0 last a.2, sends_later calls calls' wire keeps first places a.3)
 answered_later calls calls' wire keeps [] (answer ∷ said) first last a = absurd a
 answered_later calls calls' wire keeps (places ∷ owns) [] first last a = absurd a
 
-answered_more : (calls : List Call) (wire : ℤ) (owns : List (List ℕ)) (said : List Answer) (first mid last : ClientStream) (places : List ℕ) (answer : Answer) → Answered calls wire first owns said mid → Called (sent_at places calls wire) None mid last (poll_of answer) → CallFalls calls wire mid places 0 → Answered calls wire first (owns ++ places ∷ []) (said ++ answer ∷ []) last
+answered_more : (calls : List Call) (wire : ℤ) (owns : List (List ℕ)) (said : List Answer) (first mid last : ClientStream) (places : List ℕ) (answer : Answer) → Answered calls wire first owns said mid → Called (sent_at places calls wire) None mid last (poll_of answer) → CallSends calls wire mid places → Answered calls wire first (owns ++ places ∷ []) (said ++ answer ∷ []) last
 answered_more calls wire [] [] first mid last places answer a called sends =
-    (last, subst (λ (x : ClientStream). Called (sent_at places calls wire) None x last (poll_of answer)) a called, refl, subst (λ (x : ClientStream). CallFalls calls wire x places 0) a sends)
+    (last, subst (λ (x : ClientStream). Called (sent_at places calls wire) None x last (poll_of answer)) a called, refl, subst (λ (x : ClientStream). CallSends calls wire x places) a sends)
 answered_more calls wire (own ∷ owns) (other ∷ said) first mid last places answer a called sends = (a.0, a.1, answered_more calls wire owns said a.0 mid last places answer a.2 called sends, a.3)
 answered_more calls wire [] (other ∷ said) first mid last places answer a called sends = absurd a
 answered_more calls wire (own ∷ owns) [] first mid last places answer a called sends = absurd a
@@ -168,7 +90,7 @@ open_later calls calls' wire opened owns v o said alive last at keeps t =
       first = t.first;
       opened = opened_grows (sent_at opened calls wire) (sent_at opened calls' wire) (grows_later opened calls calls' wire keeps) t.args t.first t.opened;
       here = t.here;
-      opens = falls_later (IsOpening t.args wire None) calls calls' 3 opened 1 keeps t.opens;
+      opens = request_later calls calls' keeps (resuming_in (first_aggregate t.args) wire None) true opened t.opens;
       answered = answered_later calls calls' wire keeps owns said t.first last t.answered;
       alive_is = t.alive_is;
     }
@@ -185,7 +107,7 @@ end_later calls calls' wire q k at (ended.Gave x) keeps t =
 end_later calls calls' wire q k at (ended.Failed e) keeps (inl room) = inl room
 end_later calls calls' wire q k at (ended.Failed e) keeps (inr t) =
     let fails = opening_fails_grows (sent_at q.opened calls wire) (sent_at q.opened calls' wire) (grows_later q.opened calls calls' wire keeps) t.0.args None e t.0.fails in
-    inr (record { args = t.0.args; args_are = t.0.args_are; fails = fails; opens = falls_later (IsOpening t.0.args wire None) calls calls' 3 q.opened 1 keeps t.0.opens }, t.1, t.2)
+    inr (record { args = t.0.args; args_are = t.0.args_are; fails = fails; opens = request_later calls calls' keeps (resuming_in (first_aggregate t.0.args) wire None) true q.opened t.0.opens }, t.1, t.2)
 
 -- Where its own ticket goes with the same call, a follow tells in a later log what it told.
 pub tells_later : (old new : Awaited) (calls calls' : List Call) (wire : ℤ) (q : Places) (s : Stage) (k : Kept) (at : Option ℕ) → Keeps calls calls' → ((m : ℕ) → stage_ticket s ≡ Some m → new m ≡ old m) → Tells old calls wire q s k at → Tells new calls' wire q s k at
@@ -195,14 +117,14 @@ tells_later old new calls calls' wire q (stage.Opens opening) k at keeps same t 
   t.1,
   t.2,
   opens_grows (sent_at q.now calls wire) (sent_at q.now calls' wire) (grows_later q.now calls calls' wire keeps) (opening_of opening).args old new (opening_of opening).sending same t.3,
-  falls_later (IsOpening (opening_of opening).args wire None) calls calls' 3 q.now (opening_places (opening_of opening).sending) keeps t.4,
+  opens_far_later calls calls' keeps wire old new (opening_of opening).args (opening_of opening).sending q.now same t.4,
 )
 tells_later old new calls calls' wire q (stage.Open stream) k at keeps same t = (
   t.0,
   open_later calls calls' wire q.opened q.owns k.watched k.opened k.said k.alive t.0 at keeps t.1,
   so_far_grows (sent_at q.now calls wire) (sent_at q.now calls' wire) (grows_later q.now calls calls' wire keeps) old new t.0 (stream_of stream) same t.2,
   t.3,
-  record { falls = call_falls_later q.now calls calls' wire t.0 (calling.places (stream_of stream)) keeps t.4.falls; cursor = t.4.cursor; rests = t.4.rests },
+  record { sent = sent_later calls calls' wire keeps t.0 old new q.now (stream_of stream).cursor (stream_of stream).doing same t.4.sent; rests = t.4.rests },
 )
 tells_later old new calls calls' wire q (stage.Closes closing) k at keeps same t = (
   t.0,
@@ -335,7 +257,7 @@ begin_tells old new log log' wire k opening s' k' next args sound unsent rest ca
       args,
       sound,
       subst (λ (x : Option Sending). OpensSoFar old (sent_at q.now calls wire) (opening_of opening).args x) (sym unsent) tt,
-      subst (λ (x : Option Sending). FallsAt (IsOpening (opening_of opening).args wire None) calls 3 q.now (opening_places x)) (sym unsent) (none_now (IsOpening (opening_of opening).args wire None) calls 3 q 3 t.1 (omega arith)),
+      subst (λ (x : Option Sending). OpensFar old calls wire (opening_of opening).args x q.now) (sym unsent) t.1,
     )
 
 -- Memory ran out before it.
@@ -355,14 +277,12 @@ opening_adds are_its old new log log' wire opening r calls calls' its sound open
     let does = opens sound in
     such_adds are_its log log' calls calls' told told' keeps (opening_such are_its old new log log' wire does.0 (opening_of opening) r its sound.sound does.1)
 
--- what it sent stands behind what was sent before
-opening_goes : (old new : Awaited) (log log' : LogTold) (wire : ℤ) (opening : Opening Fields) (r : Step ClientOpening ClientStream) (calls calls' : List Call) (own : List ℕ) → log ≡ Some calls → log' ≡ Some calls' → Keeps calls calls' → IsPlainOpening opening → Opens old new log log' wire opening r
-    → FallsAt (IsOpening (opening_of opening).args wire None) calls 3 own (opening_places (opening_of opening).sending) → FallsAt (IsOpening (opening_of opening).args wire None) calls' 3 (sent_since own (length calls) (length calls')) (opening_left r)
-opening_goes old new log log' wire opening r calls calls' own told told' keeps sound opens before =
-    let o = opening_of opening in
+-- with what it had sent before
+opening_goes : (old new : Awaited) (log log' : LogTold) (wire : ℤ) (opening : Opening Fields) (r : Step ClientOpening ClientStream) (calls calls' : List Call) (own : List ℕ) → log ≡ Some calls → log' ≡ Some calls' → IsPlainOpening opening → Opens old new log log' wire opening r
+    → OpensFar old calls wire (opening_of opening).args (opening_of opening).sending own → BehindOpening new calls' wire (opening_of opening).args (sent_since own (length calls) (length calls')) r
+opening_goes old new log log' wire opening r calls calls' own told told' sound opens far =
     let does = opens sound in
-    let sent = opening_falls old new log log' wire does.0 o r sound.sound does.1 in
-    falls_more (IsOpening o.args wire None) log log' calls calls' 3 own (opening_places o.sending) (opening_left r) sent.commands told told' keeps before sent.adds sent.falling
+    opening_sends old new log log' wire does.0 (opening_of opening) r own calls calls' told told' sound.sound does.1 far
 
 -- The reply to the opening pends.
 pub open_waits_tells : (old new : Awaited) (log log' : LogTold) (wire : ℤ) (k : Kept) (opening opening' : Opening Fields) → (IsPlainOpening opening → IsPlainOpening opening')
@@ -386,8 +306,8 @@ open_waits_tells old new log log' wire k opening opening' sound opens caused cal
         sound t.2,
         subst (λ (a : WatchArgs). OpensSoFar new later a o'.sending) (sym args)
             (opens_grows (past_of q.now (length calls) calls' wire) later (grows_ended q.now (length calls) calls' wire) o.args new new o'.sending (λ m e. refl) came),
-        subst (λ (a : WatchArgs). FallsAt (IsOpening a wire None) calls' 3 (sent_since q.now (length calls) (length calls')) (opening_places o'.sending)) (sym args)
-            (opening_goes old new log log' wire opening (step.Pending o') calls calls' q.now told told' keeps t.2 opens t.4),
+        subst (λ (a : WatchArgs). OpensFar new calls' wire a o'.sending (sent_since q.now (length calls) (length calls'))) (sym args)
+            (opening_goes old new log log' wire opening (step.Pending o') calls calls' q.now told told' t.2 opens t.4),
       );
       extends = extends_going q 0 0 (length calls) (length calls') refl room;
       adds = opening_adds (IsWatchArgs k.watched) old new log log' wire opening (step.Pending o') calls calls' t.1 t.2 opens told told' keeps;
@@ -408,7 +328,7 @@ open_fails_tells old new log log' wire k k' opening e watched failed opens cause
       args = args_of;
       args_are = subst (λ (v : Watched). IsWatchArgs v args_of) (sym watched) t.1;
       fails = opening_fails_grows (past_of q.now (length calls) calls' wire) (sent_at q'.opened calls' wire) (grows_ended q.now (length calls) calls' wire) args_of None e fails;
-      opens = opening_goes old new log log' wire opening (step.Failed e) calls calls' q.now told told' keeps t.2 opens t.4;
+      opens = opening_goes old new log log' wire opening (step.Failed e) calls calls' q.now told told' t.2 opens t.4;
     } in
     record {
       longer = room;
@@ -447,7 +367,7 @@ open_done_tells old mid new log log_mid log' wire wire_mid k k1 opening stream s
       first = s;
       opened = opened_grows (past_of q.now (length calls) r.0 wire) (sent_at q1.opened r.0 wire) (grows_ended q.now (length calls) r.0 wire) args_of s r.2;
       here = r.3;
-      opens = opening_goes old mid log log_mid wire opening (step.Done s) calls r.0 q.now told r.1 keeps t.2 opens t.4;
+      opens = opening_goes old mid log log_mid wire opening (step.Done s) calls r.0 q.now told r.1 t.2 opens t.4;
       answered = subst (λ (l : List Answer). Answered r.0 wire s [] l s) (sym none) refl;
       alive_is = alive;
     } in
@@ -470,47 +390,21 @@ call_adds v old new log log' wire s s1 r calls calls' q k last at sound does t s
     let far = for_so_far t.args (sent_at q.now calls wire) last fit old s so in
     such_adds (IsWatchArgs v) log log' calls calls' told told' keeps (calls_such (IsWatchArgs v) t.args t.args_are does.0 old new log log' wire does.1 s s1 r sound far.0 far.1 does.2)
 
-module _ (old : Awaited) (log log' : LogTold) (wire : ℤ) (at : ClientStream) (own : List ℕ) (s s1 : ClientStream) (calls calls' : List Call) (told : log ≡ Some calls) (told' : log' ≡ Some calls') (keeps : Keeps calls calls') (so_far : SoFar old (sent_at own calls wire) true at s) where
-  -- what it kills is told behind the poll
-  abbrev kills_now : Fields → Type 0
-  kills_now command = KillsReplaced (sent_at (sent_since own (length calls) (length calls')) calls' wire) true at command
+-- what a poll of a call that had sent at these places sent, where the call began so
+call_polled : (old new : Awaited) (log log' : LogTold) (wire : ℤ) (at s s1 : ClientStream) (r : EventPoll) (own : List ℕ) (calls calls' : List Call) → log ≡ Some calls → log' ≡ Some calls' → IsSound true s → Copies old new log log' wire s s1 r → SoFar old (sent_at own calls wire) true at s → SendsSoFar old calls wire at own s
+    → BehindPoll new calls' wire at (sent_since own (length calls) (length calls')) s1 r
+call_polled old new log log' wire at s s1 r own calls calls' told told' sound does so_far sends = poll_sends does.0 old new log log' wire does.1 at s s1 r sound does.2 own calls calls' told told' so_far sends.sent
 
-  ended_grows : Grows (past_of own (length calls) calls' wire) (sent_at (sent_since own (length calls) (length calls')) calls' wire)
-  ended_grows = grows_ended own (length calls) calls' wire
-
-  kills_polled : (command : Fields) → PollKills old log log' wire true s command → kills_now command
-  kills_polled command k = replaced_grows (past_of own (length calls) calls' wire) (sent_at (sent_since own (length calls) (length calls')) calls' wire) ended_grows true at command (k.replaced calls calls' told told' own at so_far)
-
-  falls_before : (n : ℕ) → CallFalls calls wire at own n → FallsAt (IsSentAt kills_now at) calls (calling.places at) own n
-  falls_before n f =
-      falls_grown (past_of own (length calls) calls' wire) (sent_at (sent_since own (length calls) (length calls')) calls' wire) ended_grows calls at own n
-      (falls_grown (sent_at own calls wire) (past_of own (length calls) calls' wire) (record { own = λ place call there mine. mine; keeps = keeps; wire = refl }) calls at own n f)
-
-  -- what a poll sent stands behind what was sent before
-  call_falls : (r : EventPoll) → CallSent old log log' wire None s s1 r → SendsSoFar calls wire at own s → CallFalls calls' wire at (sent_since own (length calls) (length calls')) (places_behind (event_ending r) s1)
-  call_falls r sent so =
-      let n : ℕ = calling.places s in
-      let m : ℕ = places_behind (event_ending r) s1 in
-      falls_more (IsSentAt kills_now at) log log' calls calls' (calling.places at) own n m sent.commands told told' keeps (falls_before n so.falls) sent.adds (began_as kills_now (PollKills old log log' wire true s) kills_polled at s so_far.same n sent.commands m so.cursor sent.falling)
-
-  -- a call that waits has sent its getMore, or needs none
-  call_goes_on : IsSome (stream_ticket s1) → CallSent old log log' wire None s s1 polls.Pending → SendsSoFar calls wire at own s → SendsSoFar calls' wire at (sent_since own (length calls) (length calls')) s1
-  call_goes_on held sent so =
-      record {
-        falls = call_falls polls.Pending sent so;
-        cursor = λ many. let few : calling.places s1 ≤ 3 = held_few s1.cursor s1.doing held in absurd (omega (arith, few, many));
-        rests = λ none. absurd (none_is_not (stream_ticket s1) none held);
-      }
-
-ends_places : (answer : Answer) (s : ClientStream) → places_behind (event_ending (poll_of answer)) s ≡ 0
-ends_places (answers.Event event) s = refl
-ends_places answers.Nothing s = refl
-ends_places (answers.Failed e) s = refl
+-- a call has ended
+ended_sends : (awaited : Awaited) (calls : List Call) (wire : ℤ) (at s : ClientStream) (own : List ℕ) (answer : Answer) → BehindPoll awaited calls wire at own s (poll_of answer) → CallSends calls wire at own
+ended_sends awaited calls wire at s own (answers.Event event) h = h
+ended_sends awaited calls wire at s own answers.Nothing h = h
+ended_sends awaited calls wire at s own (answers.Failed e) h = h
 
 -- A call of the stream pends.
-pub call_waits_tells : (old new : Awaited) (log log' : LogTold) (wire : ℤ) (k : Kept) (s s1 : ChangeStream Fields) (r : EventPoll) → r ≡ polls.Pending → IsPlainStream s → IsPlainStream s1 → IsSome (stream_ticket (stream_of s1)) → CallSent old log log' wire None (stream_of s) (stream_of s1) r → Copies old new log log' wire (stream_of s) (stream_of s1) r → CallCaused old new log log' wire None (stream_of s) (stream_of s1) r
+pub call_waits_tells : (old new : Awaited) (log log' : LogTold) (wire : ℤ) (k : Kept) (s s1 : ChangeStream Fields) (r : EventPoll) → r ≡ polls.Pending → IsPlainStream s → IsPlainStream s1 → IsSome (stream_ticket (stream_of s1)) → Copies old new log log' wire (stream_of s) (stream_of s1) r → CallCaused old new log log' wire None (stream_of s) (stream_of s1) r
     → FollowTells old new log log' wire (stage.Open s) k (stage.Open s1) k same_place
-call_waits_tells old new log log' wire k s s1 r pends sound sound' held sent does caused calls calls' told told' q place t =
+call_waits_tells old new log log' wire k s s1 r pends sound sound' held does caused calls calls' told told' q place t =
     let at = t.0 in
     let c = subst (λ (x : EventPoll). CallCaused old new log log' wire None (stream_of s) (stream_of s1) x) pends caused calls told q.now at t.2 in
     let keeps = keeps_to log' calls c.0 calls' c.1 told' c.2 in
@@ -525,7 +419,11 @@ call_waits_tells old new log log' wire k s s1 r pends sound sound' held sent doe
         open_later calls calls' wire q.opened q.owns k.watched k.opened k.said k.alive at place keeps t.1,
         so_far_grows (past_of q.now (length calls) calls' wire) later (grows_ended q.now (length calls) calls' wire) new new at (stream_of s1) (λ m e. refl) so_far,
         sound'.sound,
-        call_goes_on old log log' wire at q.now (stream_of s) (stream_of s1) calls calls' told told' keeps t.2 held (subst (λ (x : EventPoll). CallSent old log log' wire None (stream_of s) (stream_of s1) x) pends sent) t.4,
+        record {
+          sent = subst (λ (x : EventPoll). BehindPoll new calls' wire at (sent_since q.now (length calls) (length calls')) (stream_of s1) x) pends
+              (call_polled old new log log' wire at (stream_of s) (stream_of s1) r q.now calls calls' told told' sound.sound does t.2 t.4);
+          rests = λ none. absurd (none_is_not (stream_ticket (stream_of s1)) none held);
+        },
       );
       extends = extends_going q (suc (length k.said)) (suc (length k.said)) (length calls) (length calls') refl room;
       adds = call_adds k.watched old new log log' wire (stream_of s) (stream_of s1) r calls calls' q k at place sound.sound does t.1 t.2 told told' keeps;
@@ -538,8 +436,8 @@ came_called awaited past at s (answers.Failed e) came = came
 
 -- A call of the stream answered; the rest of the turn follows.
 pub call_answers_tells : (old mid new : Awaited) (log log_mid log' : LogTold) (wire wire_mid : ℤ) (k k1 : Kept) (s s1 : ChangeStream Fields) (r : EventPoll) (answer : Answer) (s' : Stage) (k' : Kept) → RestTells new log_mid log' wire_mid (stream_of s1) k1 s' k' → k1.watched ≡ k.watched → k1.opened ≡ k.opened → k1.said ≡ k.said ++ answer ∷ [] → SaysAlive k1.alive (stream_of s1) → wire_mid ≡ wire → r ≡ poll_of answer → IsPlainStream s
-    → CallSent old log log_mid wire None (stream_of s) (stream_of s1) r → Copies old mid log log_mid wire (stream_of s) (stream_of s1) r → CallCaused old mid log log_mid wire None (stream_of s) (stream_of s1) r → FollowTells old new log log' wire (stage.Open s) k s' k' same_place
-call_answers_tells old mid new log log_mid log' wire wire_mid k k1 s s1 r answer s' k' rest watched given said alive same is sound sent does caused calls calls' told told' q place t =
+    → Copies old mid log log_mid wire (stream_of s) (stream_of s1) r → CallCaused old mid log log_mid wire None (stream_of s) (stream_of s1) r → FollowTells old new log log' wire (stage.Open s) k s' k' same_place
+call_answers_tells old mid new log log_mid log' wire wire_mid k k1 s s1 r answer s' k' rest watched given said alive same is sound does caused calls calls' told told' q place t =
     let at = t.0 in
     let c = subst (λ (x : EventPoll). CallCaused old mid log log_mid wire None (stream_of s) (stream_of s1) x) is caused calls told q.now at t.2 in
     let room = keeps_longer calls c.0 c.2 in
@@ -548,8 +446,8 @@ call_answers_tells old mid new log log_mid log' wire wire_mid k k1 s s1 r answer
     let after = stream_of s1 in
     let before = open_later calls c.0 wire q.opened q.owns k.watched k.opened k.said k.alive at place c.2 t.1 in
     let called : Called (sent_at own c.0 wire) None at after (poll_of answer) = called_grows (past_of q.now (length calls) c.0 wire) (sent_at own c.0 wire) (grows_ended q.now (length calls) c.0 wire) None at after (poll_of answer) (came_called mid (past_of q.now (length calls) c.0 wire) at after answer c.3) in
-    let sends : CallFalls c.0 wire at own 0 = subst (λ (m : ℕ). CallFalls c.0 wire at own m) (ap (λ (x : EventPoll). places_behind (event_ending x) after) is ∙ ends_places answer after)
-    (call_falls old log log_mid wire at q.now (stream_of s) after calls c.0 told c.1 c.2 t.2 r sent t.4) in
+    let sends : CallSends c.0 wire at own = ended_sends mid c.0 wire at after own answer (subst (λ (x : EventPoll). BehindPoll mid c.0 wire at own after x) is
+    (call_polled old mid log log_mid wire at (stream_of s) after r q.now calls c.0 told c.1 sound.sound does t.2 t.4)) in
     let opened : TellsOpen c.0 wire q1.opened q1.owns k1.watched k1.opened k1.said k1.alive after place = record {
       given = subst (λ (o : Ended (Unit {0})). HasGiven o) (sym given) before.given;
       args = before.args;
@@ -576,11 +474,7 @@ rest_stays_tells awaited log wire stream k sound rest calls calls' told told' q 
       t,
       begins awaited (sent_at q.now calls wire) (stream_of stream) sound rest,
       sound,
-      record {
-        falls = none_now (IsSentAt (KillsReplaced (sent_at q.now calls wire) true (stream_of stream)) (stream_of stream)) calls (calling.places (stream_of stream)) q (calling.places (stream_of stream)) none (omega arith);
-        cursor = λ many. refl;
-        rests = λ waits. none;
-      },
+      record { sent = begins_sent awaited calls wire (stream_of stream) q.now (stream_of stream).cursor (stream_of stream).doing none rest.idle rest.quiet; rests = λ waits. none },
     )
     (extends_rest q (length k.said) (suc (length k.said)) (length calls) none)
 

@@ -1,35 +1,14 @@
 -- All places of what a job sent, turn by turn.
-use Rattle.std.proofs.Common.{◌≡◌, ◌+◌, ◌-◌, ◌≤◌, ℕ, zero, suc, List, [], ◌∷◌, ◌++◌, length, refl, sym, ap, ◌∙◌, append-nil, append_assoc, arith}
+use Rattle.std.proofs.Common.{◌≡◌, ◌+◌, ◌-◌, ℕ, List, [], ◌∷◌, ◌++◌, length, refl, sym, ap, ◌∙◌, append-nil, append_assoc, arith}
 use Rattle.std.specs.List.{concat}
 use Rattle.std.specs.Prelude.{cond, nat_eq}
 use Rattle.std.proofs.lemmas.Bool.{eq-eqb, ne_eqb}
 use Rattle.std.proofs.lemmas.List.Sums.{sum_by-cons}
 use Rattle.mg_players.specs.Causes.{places_from, places_in, sent_since}
+pub use Rattle.mg_change.proofs.Grown.{since_none, since_on}
 use Rattle.mg_players.specs.Plays.{Places, all_places}
 use Rattle.mg_players.proofs.Newest.{started_in}
 use Rattle.mg_turns.specs.declared.turned.Turned.{Turned}
-
--- ---- places one behind another
-
-places_more : (at n m : ℕ) → places_from at (n + m) ≡ places_from at n ++ places_from (at + n) m
-places_more at zero m =
-    let count : 0 + m ≡ m = omega arith in
-    let same : at ≡ at + 0 = omega arith in
-    ap (λ (k : ℕ). places_from at k) count ∙ ap (λ (k : ℕ). places_from k m) same
-places_more at (suc n) m =
-    let count : suc n + m ≡ suc (n + m) = omega arith in
-    let same : suc at + n ≡ at + suc n = omega arith in
-    ap (λ (k : ℕ). places_from at k) count ∙ ap (λ (l : List ℕ). at ∷ l) (places_more (suc at) n m) ∙ ap (λ (k : ℕ). at ∷ (places_from (suc at) n ++ places_from k m)) same
-
-pub since_none : (places : List ℕ) (from : ℕ) → sent_since places from from ≡ places
-since_none places from = let none : from - from ≡ 0 = omega arith in ap (λ (k : ℕ). places ++ places_from from k) none ∙ append-nil places
-
-pub since_on : (places : List ℕ) (from mid upto : ℕ) → from ≤ mid → mid ≤ upto → sent_since (sent_since places from mid) mid upto ≡ sent_since places from upto
-since_on places from mid upto room room' =
-    let count : upto - from ≡ (mid - from) + (upto - mid) = omega (arith, room, room') in
-    let at : from + (mid - from) ≡ mid = omega (arith, room) in
-    let both : places_from from (upto - from) ≡ places_from from (mid - from) ++ places_from mid (upto - mid) = ap (λ (k : ℕ). places_from from k) count ∙ places_more from (mid - from) (upto - mid) ∙ ap (λ (k : ℕ). places_from from (mid - from) ++ places_from k (upto - mid)) at in
-    append_assoc places (places_from from (mid - from)) (places_from mid (upto - mid)) ∙ ap (λ (l : List ℕ). places ++ l) (sym both)
 
 -- ---- what a turn does to them
 

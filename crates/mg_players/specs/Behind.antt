@@ -70,7 +70,7 @@ pub record RemovedBefore (c : Course) (i : ℕ) (calls : List Call) (t : PutTask
   pub before : at < position
 
 -- In each legal history in which the log stands, and where nobody but job j touches the file that it puts, job i found its record and then listed other chunks than that
--- says, as the error tells; and job j was to remove them by a step before that listing.
+-- says, as the error tells; and job j was to remove them by a step before that listing, where job i found the record while nobody else touched the file.
 abbrev pub BlamesBehind : Course → (j i : ℕ) → List Call → PutTask → Error → Type 0
-BlamesBehind c j i calls t e = (history : List Step) → IsLegal history → Stands calls history → OthersLeave c j calls history t.at t.id
-    → (x : ReadsOther c i calls history t.at t.id e) × RemovedBefore c j calls t x.fetched
+BlamesBehind c j i calls t e = (history : List Step) → IsLegal history → Stands calls history → (leave : OthersLeave c j calls history t.at t.id)
+    → (x : ReadsOther c i calls history t.at t.id e) × (leave.from ≤ x.found.opened → RemovedBefore c j calls t x.fetched)

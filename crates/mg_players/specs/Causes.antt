@@ -1,10 +1,14 @@
 -- What the answers of jobs are caused by, and what jobs wait for: by the turns in which they sent their commands.
-use Rattle.std.specs.Prelude.{◌≡◌, ◌↔◌, ◌⊎◌, ◌<◌, ◌≤◌, ◌+◌, ◌-◌, ◌*◌, ◌++◌, IsTrue, false, true, Bool, cond, nat_eq, ℕ, zero, suc, ℤ, List, [], ◌∷◌, length, Option, Some, None, slice_get, IsSome}
+use Rattle.std.specs.Prelude.{◌≡◌, ◌↔◌, ◌⊎◌, ◌<◌, ◌≤◌, ◌+◌, ◌*◌, ◌++◌, IsTrue, false, true, Bool, cond, nat_eq, ℕ, suc, ℤ, List, [], ◌∷◌, length, Option, Some, None, slice_get, IsSome, take}
 use Rattle.std.specs.List.{concat, sum_by}
 use Rattle.mg_bson.specs.Tree.{Tree, Fields}
 use Rattle.mg_bson.specs.Raw.{fields}
-use Rattle.mg_server.specs.Calls.{IsAwaited, Past, past_of}
+use Rattle.mg_server.specs.Calls.{IsAwaited, Past}
 use Rattle.mg_server.specs.History.{IsLegal, Step}
+use Rattle.mg_link.specs.Causes.{one_if}
+use Rattle.mg_server.specs.Files.{AreChunks}
+use Rattle.mg_server.specs.Filing.{KnowsFile, part, stays}
+use Rattle.mg_link.specs.Chunks.{chunked}
 use Rattle.mg_link.specs.Link.{Awaited, Polls, SamePolls, LogTold}
 use Rattle.mg_link.specs.Log.{Call}
 use Rattle.mg_link.specs.Namespace.{Space, Target}
@@ -18,30 +22,30 @@ use Rattle.mg_change.specs.Causes.{CallWaits, Called}
 use Rattle.mg_change.specs.ClientOpenings.{first_aggregate}
 use Rattle.mg_change.specs.ClientStreams.{ClientStream, IsAlive, resuming_in, stream_token}
 use Rattle.mg_change.specs.ClosingCauses.{LastDone, LastFails, LastWaits, last_kill}
-use Rattle.mg_change.specs.OpenedStreams.{IsOpening}
 use Rattle.mg_change.specs.OpeningCauses.{StreamOpened, OpeningFails}
 use Rattle.mg_gridfs.specs.Downloads.{ClientDownload, IsSoundDownload}
 use Rattle.mg_gridfs.specs.ReadCauses as files
 use Rattle.mg_gridfs.specs.ReadCauses.{HeardRecord, ReadFails, cursor_in}
 use Rattle.mg_cursor.specs.Client.{ClientCursor}
 use Rattle.mg_records.specs.FileRecords.{FileRecord}
-use Rattle.mg_change.specs.Sent as calling
-use Rattle.mg_change.specs.Sent.{Falling, IsSentAt, KillsReplaced}
+use Rattle.mg_change.specs.Sent.{Falling}
 use Rattle.mg_ops.specs.Appended.{Appended}
 use Rattle.mg_players.specs.Asking.{AllAskOn}
-use Rattle.mg_turns.specs.Counts.{PolledBy, one_if}
+use Rattle.mg_turns.specs.Counts.{PolledBy}
 use Rattle.mg_players.specs.Drawing.{as_sent, supply_of}
 use Rattle.mg_players.specs.Follows.{FollowedFrom, IsArgsFor, IsUnfinished, poll_of}
 use Rattle.mg_players.specs.Buckets.{plain_bucket}
+use Rattle.mg_change.specs.Calling.{CallSends, OpensAt}
+pub use Rattle.mg_change.specs.Calling.{places_from, sent_at, sent_since}
 use Rattle.mg_players.specs.Gets.{AsksPlainly, GetTask, IsFindAt, chunks_find, get_of, more_chunks, no_room, record_find, room_of}
 use Rattle.mg_gridfs.specs.Buckets.{IsSize}
 use Rattle.mg_gridfs.specs.Causes.{IsUploading}
-use Rattle.mg_gridfs.specs.Storing.{HasCleared, HasStored}
+use Rattle.mg_gridfs.specs.Storing.{HasCleared, HasStored, KnowsUpload}
 use Rattle.mg_gridfs.specs.Uploads.{ClientUpload, fresh_upload, upload_ticket}
 use Rattle.mg_players.specs.Kinds.{OfFollow, OfGet, OfInsert, OfPut}
 use Rattle.mg_players.specs.PutFailures.{PutFails}
-use Rattle.mg_players.specs.PutSends.{PutEndsSent}
-use Rattle.mg_players.specs.Puts.{CannotOpen, PutTask, Supply, joined, put_aim, put_of}
+use Rattle.mg_players.specs.PutSends.{PutEndsSent, SendsFull}
+use Rattle.mg_players.specs.Puts.{CannotOpen, IsPutDoing, PutTask, Supply, joined, put_aim, put_of, taken_in, total}
 use Rattle.mg_ops.specs.InsertCauses.{InsertFails, InsertWaits}
 use Rattle.mg_ops.specs.InsertSends.{InsertPieces}
 use Rattle.mg_script.specs.Plan.{Begin, Task, insert, follow, put, get}
@@ -86,15 +90,6 @@ AllSentIn c i k places = (place : ℕ) → IsOf places place → SentIn c i k pl
 abbrev pub AreSentIn : Course → ℕ → List ℕ → Type 0
 AreSentIn c i places = (place : ℕ) → IsOf places place → (k : ℕ) × SentIn c i k place
 
--- so many places, from one on
-abbrev pub places_from : ℕ → ℕ → List ℕ
-places_from at zero = []
-places_from at (suc n) = at ∷ places_from (suc at) n
-
--- places, and those from one on, up to another
-abbrev pub sent_since : List ℕ → ℕ → ℕ → List ℕ
-sent_since places from upto = places ++ places_from from (upto - from)
-
 -- the places of all commands that job i sent in these turns, in their order, where the first of the turns sent from this place on
 abbrev pub places_in : ℕ → List ℕ → List Turned → ℕ → List ℕ
 places_in i [] notes at = []
@@ -123,10 +118,6 @@ pub record FallsAt (may : ℕ → Fields → Type 0) (calls : List Call) (n : �
   pub within : AreInLog (length calls) places
   pub falling : Falling may n (commands_at calls places) m
 
--- what a call has behind it whose commands stand at these places of the log
-abbrev pub sent_at : List ℕ → List Call → ℤ → Past
-sent_at places calls wire = past_of places (length calls) calls wire
-
 -- ---- an insert
 
 -- It ended well and tells the number of the documents that it sends, which its own commands appended, where its names may name a collection; or it failed.
@@ -154,17 +145,11 @@ pub record InsertEnds (awaited : Awaited) (c : Course) (i : ℕ) (calls : List C
 
 -- ---- a follow
 
--- A call of a stream that stood so as it began sent its commands at these places: a getMore only where its cursor was at rest and no resumption was owed. The
--- cursor that it killed is the one that its resumption replaced.
-abbrev pub CallFalls : List Call → ℤ → ClientStream → List ℕ → ℕ → Type 0
-CallFalls calls wire at own m = FallsAt (IsSentAt (KillsReplaced (sent_at own calls wire) true at) at) calls (calling.places at) own m
-
 -- The calls of a stream, one behind the other: at which places each sent its commands, what it answered with its cause, and how the stream stood
--- before the first of them and behind the last. A call sends at most the getMore of its cursor, then at most twice the aggregate that resumes the stream,
--- then at most one killing (`IsSentAt`), of the cursor that it replaced so (`KillsReplaced`).
+-- before the first of them and behind the last. Its commands are just those that `CallSends` names.
 abbrev pub Answered : List Call → ℤ → ClientStream → List (List ℕ) → List Answer → ClientStream → Type 0
 Answered calls wire at [] [] last = last ≡ at
-Answered calls wire at (places ∷ owns) (answer ∷ said) last = (after : ClientStream) × Called (sent_at places calls wire) None at after (poll_of answer) × Answered calls wire after owns said last × CallFalls calls wire at places 0
+Answered calls wire at (places ∷ owns) (answer ∷ said) last = (after : ClientStream) × Called (sent_at places calls wire) None at after (poll_of answer) × Answered calls wire after owns said last × CallSends calls wire at places
 Answered calls wire at [] (answer ∷ said) last = ⊥
 Answered calls wire at (places ∷ owns) [] last = ⊥
 
@@ -174,8 +159,7 @@ pub record HasAnswered (c : Course) (i : ℕ) (calls : List Call) (wire : ℤ) (
   pub places : List ℕ
   pub sent : AllSentIn c i 0 places
   pub opened : StreamOpened (sent_at places calls wire) args first
-  -- its aggregate, at most twice
-  pub opens : FallsAt (IsOpening args wire None) calls 3 places 1
+  pub opens : OpensAt calls wire args places
   pub owns : List (List ℕ)
   pub sent_each : (k : ℕ) (own : List ℕ) → slice_get owns k ≡ Some own → AllSentIn c i (suc k) own
   pub answered : Answered calls wire first owns said last
@@ -201,7 +185,7 @@ pub data OpenStands (awaited : Awaited) (c : Course) (i count answered : ℕ) (c
   -- its newest turn did not pend, and a call is left: nothing was sent for it
   at_rest : pends_last i c.order c.notes ≡ false → answered < count → now ≡ [] → OpenStands awaited c i count answered calls wire last now
   -- its next call waits for a reply
-  in_call : pends_last i c.order c.notes ≡ true → answered < count → AllSentIn c i (suc answered) now → CallWaits awaited (sent_at now calls wire) true last → CallFalls calls wire last now 0 → OpenStands awaited c i count answered calls wire last now
+  in_call : pends_last i c.order c.notes ≡ true → answered < count → AllSentIn c i (suc answered) now → CallWaits awaited (sent_at now calls wire) true last → CallSends calls wire last now → OpenStands awaited c i count answered calls wire last now
   -- all its calls are answered, and its closing waits for a reply
   in_closing : pends_last i c.order c.notes ≡ true → answered ≡ count → AllSentIn c i answered now → LastWaits awaited (sent_at now calls wire) last → FallsAt (KillsLast last) calls 1 now 0 → OpenStands awaited c i count answered calls wire last now
 
@@ -240,7 +224,7 @@ pub record OpenWaits (awaited : Awaited) (c : Course) (i : ℕ) (calls : List Ca
   pub sent : AllSentIn c i 0 places
   -- its turns sent these, and nothing else
   pub whole : places ≡ places_of c i
-  pub opens : FallsAt (IsOpening args wire None) calls 3 places 1
+  pub opens : OpensAt calls wire args places
   pub waits : IsAwaited awaited (sent_at places calls wire) (resuming_in (first_aggregate args) wire None)
 
 -- one whose stream was not opened: its opening has failed
@@ -252,7 +236,7 @@ pub record OpenFailed (c : Course) (i : ℕ) (calls : List Call) (wire : ℤ) (o
   -- its turns sent these, and nothing else
   pub whole : places ≡ places_of c i
   pub fails : OpeningFails (sent_at places calls wire) None args e
-  pub opens : FallsAt (IsOpening args wire None) calls 3 places 1
+  pub opens : OpensAt calls wire args places
 
 -- it is being opened, and waits where its newest turn pended; or it was opened; or it was not, and sent nothing where memory ran out before its opening
 abbrev pub FollowCaused : {A B : Type 0} → Awaited → Course → (i count : ℕ) → List Call → ℤ → Target → Begin → Option Fields → Option ℕ → Ended A → List Answer → Option Tree → Bool → Ended B → Type 0
@@ -337,18 +321,49 @@ PutEndsBy all now t ended.Unfinished = Unit {0}
 PutEndsBy all now t (ended.Gave n) = (n ≡ length (joined t.pieces)) × IsSize t.chunk × HasStored all t.at (fresh_upload (put_aim t)) (joined t.pieces)
 PutEndsBy all now t (ended.Failed e) = (CannotOpen t e × (all.places ≡ [])) ⊎ (IsSize t.chunk × PutFails now t e × HasCleared all t.at (fresh_upload (put_aim t)) e)
 
--- where it ended well, each of its pieces was written by one of so many calls
+-- Each of so many calls wrote a piece: where it ended well, all of them; where it failed, no more than there are.
 abbrev pub HasWritten : PutTask → ℕ → Ended ℕ → Type 0
 HasWritten t count ended.Unfinished = Unit {0}
 HasWritten t count (ended.Gave n) = count ≡ length t.pieces
-HasWritten t count (ended.Failed e) = Unit {0}
+HasWritten t count (ended.Failed e) = count ≤ length t.pieces
 
--- a call of its upload waits for a reply
-pub record PutWaits (awaited : Awaited) (now : Past) (t : PutTask) : Type 0 where
+-- By k turns that did not pend a put came so far that wrote so many pieces: its upload was opened in the first of them, and each of the next ones wrote a piece.
+-- One that is unfinished has had no other; that in which it closed its upload, or failed, comes behind them, unless it failed in its first one.
+abbrev pub HasTurned : PutTask → (written k : ℕ) → Ended ℕ → Type 0
+HasTurned t written k ended.Unfinished = ((k ≡ 0) × (written ≡ 0)) ⊎ ((suc written ≡ k) × (written ≤ length t.pieces))
+HasTurned t written k (ended.Gave n) = suc (suc written) ≤ k
+HasTurned t written k (ended.Failed e) = ((written ≡ 0) × (1 ≤ k)) ⊎ (suc (suc written) ≤ k)
+
+-- Behind each of these calls, which wrote a piece each, the put had inserted just the full chunks of the pieces that were written by then.
+abbrev pub AllWritten : Supply → PutTask → List Call → List (List ℕ) → Type 0
+AllWritten supply t calls owns = (n : ℕ) → n < length owns → SendsFull supply t (total (take (suc n) t.pieces)) (commands_at calls (concat (take (suc n) owns)))
+
+-- Of these bytes just full chunks stand in the store, behind which less than one is left, and no record: in each legal history in which the log stands and nobody
+-- else touches the file.
+pub record StoresFull (past : Past) (t : PutTask) (bytes : List ℕ) : Type 0 where
+  pub front : List ℕ
+  pub left : List ℕ
+  pub parts : bytes ≡ front ++ left
+  pub count : ℕ
+  pub even : length front ≡ count * t.chunk
+  pub less : length left < t.chunk
+  pub chunks : List Fields
+  pub chunks_are : AreChunks 0 (chunked t.chunk front) chunks
+  pub knows : KnowsFile past t.at t.id (stays (part chunks))
+
+-- its upload is open and no call of it goes on: all that it sent was sent by the calls that wrote so many pieces, whose full chunks are stored
+pub record PutRests (all : Past) (t : PutTask) (written : ℕ) (places : List ℕ) : Type 0 where
+  pub none : places ≡ []
+  pub stored : StoresFull all t (joined (take written t.pieces))
+
+-- A call of its upload waits for a reply: the next write behind so many pieces, or the close behind all of them. It knows what is stored by then.
+pub record PutWaits (awaited : Awaited) (all now : Past) (t : PutTask) (written : ℕ) : Type 0 where
   pub upload : ClientUpload
   pub aim_is : upload.aim ≡ put_aim t
   pub holds : IsSome (upload_ticket upload)
   pub underway : IsUploading awaited now upload
+  pub does : IsPutDoing upload.doing written (length t.pieces)
+  pub knows : KnowsUpload awaited all t.at upload (taken_in upload.doing t.pieces written)
 
 -- the call that wrote each piece, and then its last call, sent its commands in its turns; its opening sent none
 pub record PutEnds (awaited : Awaited) (c : Course) (i : ℕ) (calls : List Call) (wire : ℤ) (supply : Supply) (t : PutTask) (end : Ended ℕ) : Type 0 where
@@ -360,10 +375,14 @@ pub record PutEnds (awaited : Awaited) (c : Course) (i : ℕ) (calls : List Call
   pub whole : concat owns ++ places ≡ places_of c i
   pub by : PutEndsBy (sent_at (concat owns ++ places) calls wire) (sent_at places calls wire) t end
   -- where its newest turn pended and it has not ended
-  pub waits : pends_last i c.order c.notes ≡ true → IsUnfinished end → PutWaits awaited (sent_at places calls wire) t
+  pub waits : pends_last i c.order c.notes ≡ true → IsUnfinished end → PutWaits awaited (sent_at (concat owns ++ places) calls wire) (sent_at places calls wire) t (length owns)
+  -- where its newest turn did not, and it has had one
+  pub rests : pends_last i c.order c.notes ≡ false → IsUnfinished end → 0 < turns_done i c.order c.notes → PutRests (sent_at (concat owns ++ places) calls wire) t (length owns) places
   pub written : HasWritten t (length owns) end
+  pub turned : HasTurned t (length owns) (turns_done i c.order c.notes) end
+  pub full : AllWritten supply t calls owns
   -- these are its commands, in their order, with what it is supplied with
-  pub sends : PutEndsSent supply t (sent_at (concat owns ++ places) calls wire) (sent_at places calls wire) (commands_at calls (places_of c i)) end
+  pub sends : PutEndsSent supply t (length owns) (sent_at (concat owns ++ places) calls wire) (sent_at places calls wire) (commands_at calls (places_of c i)) end
 
 -- ---- all jobs
 

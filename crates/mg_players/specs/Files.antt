@@ -5,6 +5,7 @@ use Rattle.mg_bson.specs.Tree.{Fields, Tree}
 use Rattle.mg_link.specs.Namespace.{as_database}
 use Rattle.mg_server.specs.Commands.{asked, asks_query}
 use Rattle.mg_server.specs.Files.{Bucket, IsWhole, LeavesFile, chunks_space, file_of, files_space}
+use Rattle.mg_server.specs.Filing.{no_file}
 use Rattle.mg_server.specs.History.{IsLegal, Step, state_of}
 use Rattle.mg_link.specs.Log.{Call}
 use Rattle.mg_server.specs.Query.{Query}
@@ -45,9 +46,12 @@ abbrev pub OthersLeaveFrom : Course → ℕ → List Call → List Step → Buck
 OthersLeaveFrom c i calls history b id from upto = (position : ℕ) (step : Step) → from ≤ position → position < upto → slice_get history position ≡ Some step
     → IsStepOf c i calls position ⊎ LeavesFile (state_of (take position history)) step b id
 
--- the same of all steps
-abbrev pub OthersLeave : Course → ℕ → List Call → List Step → Bucket → Tree → Type 0
-OthersLeave c i calls history b id = OthersLeaveFrom c i calls history b id 0 (length history)
+-- From one position on nobody but job i touches the file. Nothing of it was there, and job i had no step before: so a file may be stored anew behind its deletion.
+pub record OthersLeave (c : Course) (i : ℕ) (calls : List Call) (history : List Step) (b : Bucket) (id : Tree) : Type 0 where
+  pub from : ℕ
+  pub nothing : file_of (state_of (take from history)) b id ≡ no_file
+  pub later : (position : ℕ) → IsStepOf c i calls position → from ≤ position
+  pub leave : OthersLeaveFrom c i calls history b id from (length history)
 
 -- ---- what they come to
 

@@ -9,7 +9,7 @@ use Rattle.mg_ops.specs.Inserts.{insert_ticket}
 use Rattle.mg_players.specs.Follows.{HasGiven, IsFailed, IsUnfinished}
 use Rattle.mg_players.specs.Gets.{gets_ticket, room_of}
 use Rattle.mg_players.specs.Kinds.{OfFollow, OfGet, OfInsert, OfPut}
-use Rattle.mg_gridfs.specs.Uploads.{upload_ticket}
+use Rattle.mg_gridfs.specs.Uploads.{idle, upload_ticket}
 use Rattle.mg_gridfs.specs.UploadView.{upload_of}
 use Rattle.mg_players.specs.Puts.{IsPutDoing}
 use Rattle.mg_script.specs.Plan.{Task, insert, follow, put, get}
@@ -165,25 +165,27 @@ FollowAt calls (stage.Open stream) c k last = IsOpen calls c k × HoldsIf last (
 FollowAt calls (stage.Closes closing) c k last = Closes calls c k × (last ≡ true) × IsSome (stream_closing_ticket closing)
 FollowAt calls stage.Ended c k last = (NeverOpen c k ⊎ IsClosed calls c k) × (last ≡ false)
 
--- a put that has ended after so many turns: one for its opening, one for each piece and one for its end; or one that failed
-abbrev pub PutOver : {A : Type 0} → Ended A → (count k : ℕ) → Type 0
-PutOver ended.Unfinished count k = ⊥
-PutOver (ended.Gave x) count k = count + 2 ≤ k
-PutOver (ended.Failed e) count k = 1 ≤ k
+-- A put that has ended after so many turns: one for its opening, one for each piece and one for its end; or one that failed, in its first turn, or behind that and
+-- those in which it wrote so many pieces.
+abbrev pub PutOver : {A : Type 0} → Ended A → (done count k : ℕ) → Type 0
+PutOver ended.Unfinished done count k = ⊥
+PutOver (ended.Gave x) done count k = count + 2 ≤ k
+PutOver (ended.Failed e) done count k = ((done ≡ 0) × (1 ≤ k)) ⊎ (done + 2 ≤ k)
 
--- a put of so many pieces, of which so many are written, at a stage, after k turns that did not pend, where its newest turn pended or not
+-- A put of so many pieces, of which so many are written, at a stage, after k turns that did not pend, where its newest turn pended or not: one whose newest turn
+-- did not pend has no call that goes on.
 abbrev pub PutAt : ℕ → PutStage → (done count k : ℕ) → Bool → Type 0
 PutAt calls puts.Undrawn done count k last = (count ≡ calls) × (done ≡ 0) × (k ≡ 0) × (last ≡ false)
 PutAt calls (puts.Begins begun) done count k last = ⊥
-PutAt calls (puts.Goes going) done count k last = (count ≡ calls) × (done + 1 ≡ k) × IsPutDoing (upload_of going.upload).doing done count × HoldsIf last (upload_ticket (upload_of going.upload))
-PutAt calls (puts.Ended e) done count k last = PutOver e calls k × (last ≡ false)
+PutAt calls (puts.Goes going) done count k last = (count ≡ calls) × (done + 1 ≡ k) × IsPutDoing (upload_of going.upload).doing done count × HoldsIf last (upload_ticket (upload_of going.upload)) × (last ≡ false → (upload_of going.upload).doing ≡ idle)
+PutAt calls (puts.Ended e) done count k last = PutOver e done calls k × (last ≡ false)
 
 -- a put that drew its ids, for which there may have been no place
 abbrev pub PutReady : ℕ → PutStage → (done count k : ℕ) → Bool → Type 0
 PutReady calls puts.Undrawn done count k last = ⊥
 PutReady calls (puts.Begins begun) done count k last = (count ≡ calls) × (done ≡ 0) × (k ≡ 0)
 PutReady calls (puts.Goes going) done count k last = PutAt calls (puts.Goes going) done count k last
-PutReady calls (puts.Ended e) done count k last = PutOver e calls k
+PutReady calls (puts.Ended e) done count k last = PutOver e done calls k
 
 -- a job of so many calls, after k turns that did not pend, where its newest turn pended or not
 abbrev pub IsAt : ℕ → Player → ℕ → Bool → Type 0

@@ -1,18 +1,18 @@
 -- The commands of the check of a put's bucket, in their order, and what was heard to them.
-use Rattle.std.specs.Prelude.{◌≡◌, ◌⊎◌, ◌≤◌, ◌++◌, ℕ, ℤ, Bool, true, false, List, [], ◌∷◌, replicate}
+use Rattle.std.specs.Prelude.{◌≡◌, ◌≢◌, ◌⊎◌, ◌≤◌, ◌++◌, ℕ, pos, Bool, true, false, List, [], ◌∷◌, replicate}
 use Rattle.mg_bson.specs.Tree.{Fields}
 use Rattle.mg_server.specs.Calls.{Past}
 use Rattle.mg_link.specs.Exec.{Stage, first, second, unsent}
-use Rattle.mg_link.specs.Namespace.{Space}
 use Rattle.mg_options.specs.Fields.{fields_in}
 use Rattle.mg_ops.specs.Cursors.{next_command}
+use Rattle.mg_cursor.specs.Client.{ClientCursor}
 use Rattle.mg_gridfs.specs.Buckets.{ClientBucket}
 use Rattle.mg_gridfs.specs.Checks.{ClientCheck, creates, finds, indexes, lists, reads}
 use Rattle.mg_gridfs.specs.Commands.{any_lines, creation_lines, index_lines, listing_lines}
 use Rattle.mg_gridfs.specs.declared.indexes.Place.{Place}
 use Rattle.mg_gridfs.specs.declared.indexes.Place.TheVariants as place
 use Rattle.mg_players.specs.Gets.{no_manner}
-use Rattle.mg_players.specs.PutFailures.{HeardCreation, HeardIndexes, HeardNone, HeardSome, HeardWhole}
+use Rattle.mg_players.specs.PutFailures.{HeardCreation, HeardIndexes, HeardNone, HeardSome, HeardWhole, IsOfList}
 
 -- ---- its commands
 
@@ -32,13 +32,17 @@ listing b at = fields_in (listing_lines b at)
 abbrev pub index_creation : ClientBucket → Place → Fields
 index_creation b at = fields_in (index_lines b at)
 
--- reads a list on, without options
-abbrev pub IsGetMore : Fields → Type 0
-IsGetMore command = (id : ℤ) × (space : Space) × (command ≡ next_command id space no_manner)
+-- Reads the list of its indexes on, without options: by the open cursor that a reply told, of those that were heard in turn to the first commands of this list.
+pub record IsGetMore (past : Past) (b : ClientBucket) (at : Place) (command : Fields) : Type 0 where
+  pub cursor : ClientCursor
+  pub of_list : IsOfList past b cursor
+  pub is_at : of_list.at ≡ at
+  pub held : cursor.id ≢ pos 0
+  pub command_is : command ≡ next_command cursor.id cursor.space no_manner
 
-abbrev pub AreGetMores : List Fields → Type 0
-AreGetMores [] = Unit {0}
-AreGetMores (command ∷ commands) = IsGetMore command × AreGetMores commands
+abbrev pub AreGetMores : Past → ClientBucket → Place → List Fields → Type 0
+AreGetMores past b at [] = Unit {0}
+AreGetMores past b at (command ∷ commands) = IsGetMore past b at command × AreGetMores past b at commands
 
 -- ---- one collection
 
@@ -51,19 +55,19 @@ abbrev pub AsksForList : ClientBucket → Place → ℕ → List Fields → Type
 AsksForList b at count commands = commands ≡ creation b at ∷ replicate count (listing b at)
 
 -- its creation, once; then the list of its indexes, once or twice; then getMores that read it on
-pub record SendsList (b : ClientBucket) (at : Place) (commands : List Fields) : Type 0 where
+pub record SendsList (past : Past) (b : ClientBucket) (at : Place) (commands : List Fields) : Type 0 where
   pub asked : ℕ
   pub mores : List Fields
   pub parts : commands ≡ creation b at ∷ (replicate asked (listing b at) ++ mores)
   pub some : 1 ≤ asked
   pub few : asked ≤ 2
-  pub read_on : AreGetMores mores
+  pub read_on : AreGetMores past b at mores
 
 -- these, and then the creation of its index, so many times
-pub record SendsIndex (b : ClientBucket) (at : Place) (count : ℕ) (commands : List Fields) : Type 0 where
+pub record SendsIndex (past : Past) (b : ClientBucket) (at : Place) (count : ℕ) (commands : List Fields) : Type 0 where
   pub list : List Fields
   pub parts : commands ≡ list ++ replicate count (index_creation b at)
-  pub listed : SendsList b at list
+  pub listed : SendsList past b at list
 
 -- how often its index is created: just where the list had none
 abbrev pub where_missing : Bool → ℕ
@@ -73,7 +77,7 @@ where_missing false = 1
 -- all commands for a collection, by what was heard of it
 pub record SendsWhole (past : Past) (b : ClientBucket) (at : Place) (commands : List Fields) : Type 0 where
   pub found : Bool
-  pub ends : SendsIndex b at (where_missing found) commands
+  pub ends : SendsIndex past b at (where_missing found) commands
   pub heard : HeardWhole past b at found
 
 -- The commands for a collection up to some point: to its creation; to the list of its indexes, once it was heard that the collection is there; behind that list; or to the
@@ -81,8 +85,8 @@ pub record SendsWhole (past : Past) (b : ClientBucket) (at : Place) (commands : 
 pub data SendsPart (past : Past) (b : ClientBucket) (at : Place) (commands : List Fields) : Type 0 where
   to_creation : (count : ℕ) → count ≤ 1 → SendsCreation b at count commands → SendsPart past b at commands
   to_listing : HeardCreation past b at → (count : ℕ) → count ≤ 2 → AsksForList b at count commands → SendsPart past b at commands
-  to_list : HeardCreation past b at → SendsList b at commands → SendsPart past b at commands
-  to_index : HeardCreation past b at → HeardIndexes past b at false → (count : ℕ) → count ≤ 1 → SendsIndex b at count commands → SendsPart past b at commands
+  to_list : HeardCreation past b at → SendsList past b at commands → SendsPart past b at commands
+  to_index : HeardCreation past b at → HeardIndexes past b at false → (count : ℕ) → count ≤ 1 → SendsIndex past b at count commands → SendsPart past b at commands
 
 -- ---- the whole check
 
@@ -133,5 +137,5 @@ abbrev pub CheckSentAt : Past → ClientBucket → List Fields → ClientCheck �
 CheckSentAt past b commands (finds sending) = commands ≡ replicate (count_at true sending.stage) (any_find b)
 CheckSentAt past b commands (creates at sending) = SendsBehind past b at (SendsCreation b at (count_at false sending.stage)) commands
 CheckSentAt past b commands (lists at sending) = HeardCreation past b at × SendsBehind past b at (AsksForList b at (count_at true sending.stage)) commands
-CheckSentAt past b commands (reads at cursor found count) = HeardCreation past b at × SendsBehind past b at (SendsList b at) commands
-CheckSentAt past b commands (indexes at sending) = HeardCreation past b at × HeardIndexes past b at false × SendsBehind past b at (SendsIndex b at (count_at false sending.stage)) commands
+CheckSentAt past b commands (reads at cursor found count) = HeardCreation past b at × SendsBehind past b at (SendsList past b at) commands
+CheckSentAt past b commands (indexes at sending) = HeardCreation past b at × HeardIndexes past b at false × SendsBehind past b at (SendsIndex past b at (count_at false sending.stage)) commands

@@ -1,5 +1,5 @@
 -- The commands of a put, in their order.
-use Rattle.std.specs.Prelude.{◌≡◌, ◌⊎◌, ◌<◌, ◌≤◌, ◌+◌, ◌^◌, ◌++◌, ℕ, ℤ, Bool, true, false, List, [], ◌∷◌, length, Option, Some, None}
+use Rattle.std.specs.Prelude.{◌≡◌, ◌⊎◌, ◌<◌, ◌≤◌, ◌+◌, ◌*◌, ◌^◌, ◌++◌, ℕ, suc, ℤ, Bool, true, false, List, [], ◌∷◌, length, take, Option, Some, None}
 use Rattle.mg_bson.specs.Raw.{fields}
 use Rattle.mg_bson.specs.Tree.{Fields}
 use Rattle.mg_server.specs.Calls.{Past, RequestFails}
@@ -58,6 +58,18 @@ pub record InsertsChunks (supply : Supply) (t : PutTask) (from upto : ℕ) (comm
 abbrev pub ChunkPieces : Supply → PutTask → ℕ → List Fields → ℕ → Type 0
 ChunkPieces supply t from [] upto = upto ≡ from
 ChunkPieces supply t from (command ∷ commands) upto = (between : ℕ) × InsertsChunks supply t from between command × ChunkPieces supply t between commands upto
+
+-- By these commands just the full chunks of so many bytes are inserted, behind those of the check, and nothing is sent where there is no full one.
+pub record SendsFull (supply : Supply) (t : PutTask) (bytes : ℕ) (commands : List Fields) : Type 0 where
+  pub check : List Fields
+  pub chunks : List Fields
+  pub parts : commands ≡ check ++ chunks
+  pub count : ℕ
+  pub pieces : ChunkPieces supply t 0 chunks count
+  pub left : ℕ
+  pub even : count * t.chunk + left ≡ bytes
+  pub less : left < t.chunk
+  pub none : bytes < t.chunk → commands ≡ []
 
 -- ---- the record, and the removal
 
@@ -155,15 +167,24 @@ pub data FailsSo (supply : Supply) (t : PutTask) (past : Past) (e : Error) (upto
   -- an insert had failed, or its chunks were too many: a removal is sent, unless memory runs out or it is not built
   late : (original : Error) → FailsFirst past t original → IsErrorBehind supply t past upto moment original → AnswersFirst past t original e → FailsSo supply t past e upto moment removed
 
+-- how far a put may have come: with which chunks, and with its record or not
+abbrev pub Reach : Type 1
+Reach = ℕ → Option ℤ → Type 0
+
+-- One that has written so many pieces, and not all, inserted no chunk that is not full of these and of the next one, and no record.
+abbrev pub Reaches : PutTask → ℕ → Reach
+Reaches t written upto moment = written < length t.pieces → (moment ≡ None) × (upto * t.chunk ≤ total (take (suc written) t.pieces))
+
 -- one that has not ended has removed its chunks only for such a first error
 abbrev pub StopsSo : Supply → PutTask → Past → ℕ → Option ℤ → Bool → Type 0
 StopsSo supply t past upto moment removed = removed ≡ true → (original : Error) × FailsFirst past t original × IsErrorBehind supply t past upto moment original
 
--- where it ended well it sent all chunks and its record, and removed nothing; the first past is that of all its calls, the second that of its last one
-abbrev pub PutEndsSent : Supply → PutTask → Past → Past → List Fields → Ended ℕ → Type 0
-PutEndsSent supply t all past commands ended.Unfinished = SentFor supply t all commands (StopsSo supply t past)
-PutEndsSent supply t all past commands (ended.Gave n) = (moment : ℤ) × PutSends supply t all commands (length (file_chunks t)) (Some moment) false
-PutEndsSent supply t all past commands (ended.Failed e) = SentFor supply t all commands (FailsSo supply t past e)
+-- Where it ended well it sent all chunks and its record, and removed nothing; another one wrote so many pieces, and sent no more than these and the next one call for.
+-- The first past is that of all its calls, the second that of its last one.
+abbrev pub PutEndsSent : Supply → PutTask → ℕ → Past → Past → List Fields → Ended ℕ → Type 0
+PutEndsSent supply t written all past commands ended.Unfinished = SentFor supply t all commands (λ upto moment removed. StopsSo supply t past upto moment removed × Reaches t written upto moment)
+PutEndsSent supply t written all past commands (ended.Gave n) = (moment : ℤ) × PutSends supply t all commands (length (file_chunks t)) (Some moment) false
+PutEndsSent supply t written all past commands (ended.Failed e) = SentFor supply t all commands (λ upto moment removed. FailsSo supply t past e upto moment removed × Reaches t written upto moment)
 
 -- ---- while it goes on
 
@@ -192,36 +213,36 @@ SentAll supply t all commands moment = PutSends supply t all commands (length (f
 abbrev pub NeedsNoCheck : PutTask → Bool → Type 0
 NeedsNoCheck t checked = (checked ≡ true) ⊎ (total t.pieces < t.chunk)
 
--- there is an error in hand, and it is a first one behind what was sent
-abbrev pub HoldsError : Supply → PutTask → Past → ℕ → Option ℤ → Option Error → Type 0
-HoldsError supply t past upto moment None = ⊥
-HoldsError supply t past upto moment (Some original) = IsErrorBehind supply t past upto moment original
+-- there is an error in hand, and it is a first one behind what was sent, which may have come so far
+abbrev pub HoldsError : Supply → PutTask → Reach → Past → ℕ → Option ℤ → Option Error → Type 0
+HoldsError supply t R past upto moment None = ⊥
+HoldsError supply t R past upto moment (Some original) = IsErrorBehind supply t past upto moment original × R upto moment
 
 -- it sent some, and is on the way back with this error, behind the check of a file that has a full chunk
-pub record SentUntil (supply : Supply) (t : PutTask) (all past : Past) (commands : List Fields) (error : Option Error) (removed : Bool) : Type 0 where
+pub record SentUntil (supply : Supply) (t : PutTask) (R : Reach) (all past : Past) (commands : List Fields) (error : Option Error) (removed : Bool) : Type 0 where
   pub upto : ℕ
   pub moment : Option ℤ
   pub sends : PutSends supply t all commands upto moment removed
   pub behind : t.chunk ≤ total t.pieces → CheckPasses all (put_bucket t) sends.check
-  pub holds : HoldsError supply t past upto moment error
+  pub holds : HoldsError supply t R past upto moment error
 
 -- What it sent, by how far a call has come, where it checked or not and so many of its chunks are inserted: a put gives up no call, and checks only where it has a full chunk. The first
 -- past is that of all its calls, the second that of the one that goes on.
-abbrev pub PhaseSent : Supply → PutTask → Past → Past → List Fields → Bool → ℕ → Phase → Type 0
-PhaseSent supply t all past commands checked sent begins = (commands ≡ []) × (t.chunk ≤ total t.pieces)
-PhaseSent supply t all past commands checked sent (uploads.checks check) = CheckSentAt all (put_bucket t) commands check × (t.chunk ≤ total t.pieces)
-PhaseSent supply t all past commands checked sent fills = SentChunks supply t all commands true sent
-PhaseSent supply t all past commands checked sent (uploads.inserts sending count) = InsertsChunks supply t sent (sent + count) (fields sending.command) × Around sending.stage (SentChunks supply t all commands true sent) (SentChunks supply t all commands true (sent + count))
-PhaseSent supply t all past commands checked sent (rests moment) = SentChunks supply t all commands checked sent
-PhaseSent supply t all past commands checked sent (lasts sending ending) = InsertsChunks supply t sent (length (file_chunks t)) (fields sending.command) × (sent + 1 ≡ length (file_chunks t)) × Around sending.stage (SentChunks supply t all commands checked sent × NeedsNoCheck t checked) (SentAll supply t all commands None)
-PhaseSent supply t all past commands checked sent (ends ending) = SentAll supply t all commands None
-PhaseSent supply t all past commands checked sent (uploads.records sending ending) = (fields sending.command ≡ record_insert t ending.moment) × Around sending.stage (SentAll supply t all commands None) (SentAll supply t all commands (Some ending.moment))
-PhaseSent supply t all past commands checked sent (lands flight error) = ⊥
-PhaseSent supply t all past commands checked sent (undoes error) = SentUntil supply t all past commands error false
-PhaseSent supply t all past commands checked sent (uploads.removes sending error) = (fields sending.command ≡ chunks_removal t) × Around sending.stage (SentUntil supply t all past commands error false) (SentUntil supply t all past commands error true)
+abbrev pub PhaseSent : Supply → PutTask → Reach → Past → Past → List Fields → Bool → ℕ → Phase → Type 0
+PhaseSent supply t R all past commands checked sent begins = (commands ≡ []) × (t.chunk ≤ total t.pieces)
+PhaseSent supply t R all past commands checked sent (uploads.checks check) = CheckSentAt all (put_bucket t) commands check × (t.chunk ≤ total t.pieces)
+PhaseSent supply t R all past commands checked sent fills = SentChunks supply t all commands true sent
+PhaseSent supply t R all past commands checked sent (uploads.inserts sending count) = InsertsChunks supply t sent (sent + count) (fields sending.command) × Around sending.stage (SentChunks supply t all commands true sent) (SentChunks supply t all commands true (sent + count))
+PhaseSent supply t R all past commands checked sent (rests moment) = SentChunks supply t all commands checked sent
+PhaseSent supply t R all past commands checked sent (lasts sending ending) = InsertsChunks supply t sent (length (file_chunks t)) (fields sending.command) × (sent + 1 ≡ length (file_chunks t)) × Around sending.stage (SentChunks supply t all commands checked sent × NeedsNoCheck t checked) (SentAll supply t all commands None)
+PhaseSent supply t R all past commands checked sent (ends ending) = SentAll supply t all commands None
+PhaseSent supply t R all past commands checked sent (uploads.records sending ending) = (fields sending.command ≡ record_insert t ending.moment) × Around sending.stage (SentAll supply t all commands None) (SentAll supply t all commands (Some ending.moment))
+PhaseSent supply t R all past commands checked sent (lands flight error) = ⊥
+PhaseSent supply t R all past commands checked sent (undoes error) = SentUntil supply t R all past commands error false
+PhaseSent supply t R all past commands checked sent (uploads.removes sending error) = (fields sending.command ≡ chunks_removal t) × Around sending.stage (SentUntil supply t R all past commands error false) (SentUntil supply t R all past commands error true)
 
 -- what it sent by what its upload is doing
-abbrev pub DoingSent : Supply → PutTask → Past → Past → List Fields → Bool → ℕ → Doing → Type 0
-DoingSent supply t all past commands checked sent idle = SentChunks supply t all commands checked sent
-DoingSent supply t all past commands checked sent (busy call phase) = PhaseSent supply t all past commands checked sent phase
-DoingSent supply t all past commands checked sent closed = Unit {0}
+abbrev pub DoingSent : Supply → PutTask → Reach → Past → Past → List Fields → Bool → ℕ → Doing → Type 0
+DoingSent supply t R all past commands checked sent idle = SentChunks supply t all commands checked sent
+DoingSent supply t R all past commands checked sent (busy call phase) = PhaseSent supply t R all past commands checked sent phase
+DoingSent supply t R all past commands checked sent closed = Unit {0}

@@ -217,6 +217,14 @@ CutBy u taken idle = IsCutAt u taken 0
 CutBy u taken (busy call phase) = CutByPhase u taken phase
 CutBy u taken closed = Unit {0}
 
+-- A put checks its bucket, and a write of it goes on, only where the bytes that it took have a full chunk.
+abbrev pub NeedsFull : PutTask → Bool → Doing → List ℕ → Type 0
+NeedsFull t checked idle taken = checked ≡ true → t.chunk ≤ length taken
+NeedsFull t checked (busy (write piece) phase) taken = t.chunk ≤ length taken
+NeedsFull t checked (busy close phase) taken = Unit {0}
+NeedsFull t checked (busy abort phase) taken = Unit {0}
+NeedsFull t checked closed taken = Unit {0}
+
 -- ---- names
 
 -- the names of its collections may be names of collections

@@ -15,19 +15,18 @@ use Rattle.mg_change.specs.Causes.{SoFar}
 use Rattle.mg_change.specs.ClientStreams.{ClientStream, IsAlive, IsSound, stream_ticket, stream_token}
 use Rattle.mg_change.specs.ClosingCauses.{LastSoFar}
 use Rattle.mg_change.specs.ClosingStreams.{Landing, ends, lands, lands_aggregate, lands_replaced}
-use Rattle.mg_change.specs.OpenedStreams.{IsOpening}
 use Rattle.mg_change.specs.OpeningCauses.{StreamOpened, OpeningFails, OpensSoFar}
 use Rattle.mg_change.specs.OpeningView.{IsPlainOpening, opening_of}
-use Rattle.mg_change.specs.Sent as calling
-use Rattle.mg_change.specs.Sent.{ending_places, opening_places, resuming_places}
+use Rattle.mg_change.specs.Sent.{ending_places, resuming_places}
 use Rattle.mg_change.specs.StreamView.{stream_of}
-use Rattle.mg_players.specs.Causes.{Answered, AreInLog, OpeningAsks, CallFalls, ClosedBy, Course, EndsBy, EndsSent, FallsAt, KillsLast, AllSentIn, SentNoneBehind, commands_at, course, places_of, sent_at, PutEndsBy, HasWritten}
+use Rattle.mg_players.specs.Causes.{Answered, AreInLog, OpeningAsks, ClosedBy, Course, EndsBy, EndsSent, FallsAt, KillsLast, AllSentIn, SentNoneBehind, commands_at, course, places_of, sent_at, PutEndsBy, HasWritten, AllWritten}
+use Rattle.mg_change.specs.Calling.{OpensAt, OpensFar, SentBy}
 use Rattle.mg_players.specs.Asking.{AllAskOn, DownloadLast, FindingLast}
 use Rattle.mg_players.specs.Follows.{FollowTurns, HasGiven, IsArgsFor, Placing, filter_in}
 use Rattle.mg_gridfs.specs.Buckets.{IsSize}
 use Rattle.mg_gridfs.specs.Causes.{IsUploading}
 use Rattle.mg_gridfs.specs.Storing.{KnowsUpload}
-use Rattle.mg_gridfs.specs.Uploads.{ClientUpload, upload_error}
+use Rattle.mg_gridfs.specs.Uploads.{ClientUpload, RestsBy, idle, upload_error}
 use Rattle.mg_gridfs.specs.UploadView.{upload_of}
 use Rattle.mg_players.specs.Buckets.{plain_bucket}
 use Rattle.mg_players.specs.Gets.{AsksPlainly, GetKnowsAt, GetTask, IsFindAt, IsGetCommand, IsOpeningFor, no_room, sought}
@@ -56,8 +55,8 @@ use Rattle.mg_players.specs.Playing.{job_ticket}
 use Rattle.mg_players.specs.Plays as words
 use Rattle.mg_players.specs.Plays.{Extends, Moves, MovesTo, Places, all_places}
 use Rattle.mg_players.specs.PutFailures.{AnswersPut, PutReads}
-use Rattle.mg_players.specs.PutSends.{DoingSent, PutEndsSent}
-use Rattle.mg_players.specs.Puts.{BegunFor, CutBy, DoingSupplied, PutTask, Supply, put_aim, put_bucket, taken_in, total, writes}
+use Rattle.mg_players.specs.PutSends.{DoingSent, PutEndsSent, Reaches}
+use Rattle.mg_players.specs.Puts.{BegunFor, CutBy, DoingSupplied, NeedsFull, PutTask, Supply, put_aim, put_bucket, taken_in, total, writes}
 use Rattle.mg_players.specs.Reading.{CountsIn, EndsAsListed, HeardEmpty, HeardHeld, ListsIts, ListsOther, ReadStops}
 use Rattle.mg_players.specs.Sends.{IsCommandOf, MaySend, PutFlies, SendsOnly}
 use Rattle.mg_ops.specs.Underway.{HasInserted}
@@ -108,7 +107,7 @@ pub record TellsOpen (calls : List Call) (wire : ℤ) (places : List ℕ) (owns 
   pub first : ClientStream
   pub opened : StreamOpened (sent_at places calls wire) args first
   pub here : at ≡ Some opened.heard.place
-  pub opens : FallsAt (IsOpening args wire None) calls 3 places 1
+  pub opens : OpensAt calls wire args places
   pub answered : Answered calls wire first owns said last
   pub alive_is : IsTrue alive ↔ IsAlive last
 
@@ -120,7 +119,7 @@ pub record TellsFailed (calls : List Call) (wire : ℤ) (places : List ℕ) (v :
   pub args : WatchArgs
   pub args_are : IsWatchArgs v args
   pub fails : OpeningFails (sent_at places calls wire) None args e
-  pub opens : FallsAt (IsOpening args wire None) calls 3 places 1
+  pub opens : OpensAt calls wire args places
 
 -- how it ended
 abbrev pub TellsEnd : {A : Type 0} → List Call → ℤ → Places → Kept → Option ℕ → Ended A → Type 0
@@ -135,18 +134,16 @@ landing_places (lands_aggregate sending) = 1
 landing_places (lands_replaced before) = 1
 landing_places (ends sending) = ending_places sending.stage
 
--- A call that began where its stream stood so sent its commands at these places, none where it waits for no reply; where it may still send its getMore, that is
--- of the cursor which it began with.
-pub record SendsSoFar (calls : List Call) (wire : ℤ) (at : ClientStream) (own : List ℕ) (s : ClientStream) : Type 0 where
-  pub falls : CallFalls calls wire at own (calling.places s)
-  pub cursor : 4 ≤ calling.places s → s.cursor ≡ at.cursor
+-- What a call that began where its stream stood so sent at these places so far; none where it waits for no reply.
+pub record SendsSoFar (awaited : Awaited) (calls : List Call) (wire : ℤ) (at : ClientStream) (own : List ℕ) (s : ClientStream) : Type 0 where
+  pub sent : SentBy awaited calls wire at own s.cursor s.doing
   pub rests : stream_ticket s ≡ None → own ≡ []
 
 -- what it can tell at each stage, where the call at this place opened its stream
 abbrev pub Tells : Awaited → List Call → ℤ → Places → Stage → Kept → Option ℕ → Type 0
 Tells awaited calls wire q stage.Unopened k at = TellsFirst q k × (q.now ≡ [])
-Tells awaited calls wire q (stage.Opens opening) k at = TellsFirst q k × IsWatchArgs k.watched (opening_of opening).args × IsPlainOpening opening × OpensSoFar awaited (sent_at q.now calls wire) (opening_of opening).args (opening_of opening).sending × FallsAt (IsOpening (opening_of opening).args wire None) calls 3 q.now (opening_places (opening_of opening).sending)
-Tells awaited calls wire q (stage.Open stream) k at = (last : ClientStream) × IsOpened calls wire q k last at × SoFar awaited (sent_at q.now calls wire) true last (stream_of stream) × IsSound true (stream_of stream) × SendsSoFar calls wire last q.now (stream_of stream)
+Tells awaited calls wire q (stage.Opens opening) k at = TellsFirst q k × IsWatchArgs k.watched (opening_of opening).args × IsPlainOpening opening × OpensSoFar awaited (sent_at q.now calls wire) (opening_of opening).args (opening_of opening).sending × OpensFar awaited calls wire (opening_of opening).args (opening_of opening).sending q.now
+Tells awaited calls wire q (stage.Open stream) k at = (last : ClientStream) × IsOpened calls wire q k last at × SoFar awaited (sent_at q.now calls wire) true last (stream_of stream) × IsSound true (stream_of stream) × SendsSoFar awaited calls wire last q.now (stream_of stream)
 Tells awaited calls wire q (stage.Closes closing) k at = (last : ClientStream) × IsOpened calls wire q k last at × (k.token ≡ stream_token last) × LastSoFar awaited (sent_at q.now calls wire) last closing × FallsAt (KillsLast last) calls 1 q.now (landing_places closing.doing)
 Tells awaited calls wire q stage.Ended k at = TellsEnd calls wire q k at k.opened
 
@@ -328,14 +325,19 @@ pub record PutTellsOpen (awaited : Awaited) (calls : List Call) (wire : ℤ) (q 
   pub sized : IsSize t.chunk
   pub opened : q.opened ≡ []
   pub counted : length q.owns ≡ done
+  -- between its calls nothing was sent for the next one, and less than a chunk is left
+  pub rests : u.doing ≡ idle → (q.now ≡ []) × (length u.behind < u.aim.size)
+  pub full : AllWritten supply t calls q.owns
+  pub needs : NeedsFull t u.checked u.doing (taken_in u.doing t.pieces done)
   pub cut : CutBy u (taken_in u.doing t.pieces done) u.doing
+  pub pauses : RestsBy u.doing
   pub underway : IsUploading awaited (sent_at q.now calls wire) u
   pub flies : PutFlies supply t u.doing
   pub supplied : DoingSupplied supply t ids u.sent u.doing
   pub its : AnswersPut t (upload_error u)
   pub reads : PutReads awaited (sent_at q.now calls wire) (put_bucket t) u.doing
   pub knows : KnowsUpload awaited (sent_at (all_places q) calls wire) t.at u (taken_in u.doing t.pieces done)
-  pub said : PutSaid calls q (λ commands. DoingSent supply t (sent_at (all_places q) calls wire) (sent_at q.now calls wire) commands u.checked u.sent u.doing)
+  pub said : PutSaid calls q (λ commands. DoingSent supply t (Reaches t done) (sent_at (all_places q) calls wire) (sent_at q.now calls wire) commands u.checked u.sent u.doing)
   pub lays : DoingLays (sent_at (all_places q) calls wire) t u.doing
 
 -- it has sent nothing
@@ -347,7 +349,7 @@ abbrev pub PutTells : Awaited → List Call → ℤ → Places → Supply → Pu
 PutTells awaited calls wire q supply t done puts.Undrawn = SentNothing q × (done ≡ 0)
 PutTells awaited calls wire q supply t done (puts.Begins begun) = SentNothing q × (done ≡ 0) × BegunFor supply t begun
 PutTells awaited calls wire q supply t done (puts.Goes going) = PutTellsOpen awaited calls wire q supply t (ids_left going.ids) done (upload_of going.upload) × (going.length ≡ total t.pieces)
-PutTells awaited calls wire q supply t done (puts.Ended end) = (q.opened ≡ []) × (length q.owns ≡ done) × PutEndsBy (sent_at (all_places q) calls wire) (sent_at q.now calls wire) t end × HasWritten t done end × PutSaid calls q (λ commands. PutEndsSent supply t (sent_at (all_places q) calls wire) (sent_at q.now calls wire) commands end) × EndLays (sent_at (all_places q) calls wire) t
+PutTells awaited calls wire q supply t done (puts.Ended end) = (q.opened ≡ []) × (length q.owns ≡ done) × PutEndsBy (sent_at (all_places q) calls wire) (sent_at q.now calls wire) t end × HasWritten t done end × PutSaid calls q (λ commands. PutEndsSent supply t done (sent_at (all_places q) calls wire) (sent_at q.now calls wire) commands end) × EndLays (sent_at (all_places q) calls wire) t × AllWritten supply t calls q.owns
 
 -- the number of what goes on: how many turns that did not pend come before it
 abbrev pub put_number : ℕ → PutStage → ℕ

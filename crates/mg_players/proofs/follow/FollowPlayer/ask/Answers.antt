@@ -71,9 +71,9 @@ returns-in-None-clause-comes g c = ask_waits _ _ c.args.stream c.poll_next_if_an
 pub returns-in-Some-clause-told : goal.returns-in-Some-clause-told
 returns-in-Some-clause-told g c =
     call_answers_tells _ _ _ _ _ _ _ _ (kept c.args.self.now) (kept c.take.new.self) c.args.stream c.poll_next_if_any.new.self c.poll_next_if_any.result c.in-Some.answer _ _ c.go_on.ensures.told
-    c.take.ensures.watched c.take.ensures.opened c.take.ensures.answers c.take.ensures.alive c.poll_next_if_any.ensures.keeps.later.wire c.in-Some.ensures.2 c.requires.sound c.poll_next_if_any.ensures.sent c.poll_next_if_any.ensures.does c.poll_next_if_any.ensures.caused
+    c.take.ensures.watched c.take.ensures.opened c.take.ensures.answers c.take.ensures.alive c.poll_next_if_any.ensures.keeps.later.wire c.in-Some.ensures.2 c.requires.sound c.poll_next_if_any.ensures.does c.poll_next_if_any.ensures.caused
 
 pub returns-in-None-clause-told : goal.returns-in-None-clause-told
 returns-in-None-clause-told g c =
     call_waits_tells _ _ _ _ _ (kept c.args.self.now) c.args.stream c.poll_next_if_any.new.self c.poll_next_if_any.result c.in-None.ensures c.requires.sound c.poll_next_if_any.ensures.sound
-    (waits_held _ _ _ c.poll_next_if_any.result c.in-None.ensures c.poll_next_if_any.ensures.keeps.pended) c.poll_next_if_any.ensures.sent c.poll_next_if_any.ensures.does c.poll_next_if_any.ensures.caused
+    (waits_held _ _ _ c.poll_next_if_any.result c.in-None.ensures c.poll_next_if_any.ensures.keeps.pended) c.poll_next_if_any.ensures.does c.poll_next_if_any.ensures.caused
