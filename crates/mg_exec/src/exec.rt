@@ -201,6 +201,8 @@ impl Action for Exec {
 
     ghost ticket = { ticket_of };
 
+    ghost does = { Runs };
+
     fn poll<L: Link>(self, link: &mut L) -> Step<Exec, RawDocumentBuf>
         requires { IsOut (L.awaited link.old) (ticket_of self) }
         ensures runs { Runs (L.awaited link.old) (L.awaited link.new) (L.log link.old) (L.log link.new) (L.wire link.old) self result }

@@ -1,10 +1,10 @@
 -- What the polls of an action do.
-use Rattle.std.specs.Prelude.{◌≡◌, ◌⊎◌, ◌<◌, ◌+◌, ℕ, Option, Some, None, IsSome}
+use Rattle.std.specs.Prelude.{◌≡◌, ◌⊎◌, ◌<◌, ◌+◌, ℕ, zero, suc, ℤ, Option, Some, None, IsSome}
 use Rattle.mg_link.specs.declared.action.Step.{Step}
 use Rattle.mg_link.specs.declared.action.Step.TheVariants.{Pending, Done, Failed}
 use Rattle.mg_link.specs.declared.error.ErrorKind.TheVariants as kind
 use Rattle.mg_link.specs.Causes.{Rose, RoseJust}
-use Rattle.mg_link.specs.Link.{Awaited}
+use Rattle.mg_link.specs.Link.{Awaited, LogTold}
 
 -- the ticket, where one is held, is out
 abbrev pub IsOut : Awaited → Option ℕ → Type 0
@@ -50,3 +50,30 @@ abbrev pub EndsAtOnce : {S T : Type 0} → Step S T → Type 0
 EndsAtOnce (Pending s) = ⊥
 EndsAtOnce (Done t) = Unit {0}
 EndsAtOnce (Failed e) = e.kind ≡ kind.Io → ⊥
+
+-- ---- several polls
+
+-- what a poll does to the tickets and the calls of its link, over a wire version, from a state to what it answers
+abbrev pub PollDoes : Type 0 → Type 0 → Type 1
+PollDoes S T = Awaited → Awaited → LogTold → LogTold → ℤ → S → Step S T → Type 0
+
+-- so many polls pended, each from the state that the one before gave back
+abbrev pub Pendings : {S T : Type 0} → PollDoes S T → ℕ → Awaited → Awaited → LogTold → LogTold → ℤ → S → S → Type 0
+Pendings {S} {T} does zero old new log log' wire s s' = (new ≡ old) × (log' ≡ log) × (s' ≡ s)
+Pendings {S} {T} does (suc n) old new log log' wire s s' = (between : Awaited) × (log_between : LogTold) × (mid : S) × Pendings does n old between log log_between wire s mid × does between new log_between log' wire mid (Pending s')
+
+abbrev pub StillPends : {S T : Type 0} → Step S T → Type 0
+StillPends (Pending s) = Unit {0}
+StillPends (Done t) = ⊥
+StillPends (Failed e) = ⊥
+
+-- An action was polled at most so many times, and this is what its last poll answered: all polls before it pended, and it did only as the last one that there could be.
+pub record RunsBy {S T : Type 0} (does : PollDoes S T) (most : ℕ) (old new : Awaited) (log log' : LogTold) (wire : ℤ) (s : S) (r : Step S T) : Type 0 where
+  pub pendings : ℕ
+  pub within : pendings < most
+  pub last : StillPends r → pendings + 1 ≡ most
+  pub between : Awaited
+  pub log_between : LogTold
+  pub state : S
+  pub pended : Pendings does pendings old between log log_between wire s state
+  pub answers : does between new log_between log' wire state r

@@ -361,6 +361,14 @@ impl From<OutOfMemory> for Error {
     }
 }
 
+impl From<Malformed> for Error {
+    ghost from_gives = { λ m e. e ≡ plain (kinds.InvalidResponse m) };
+
+    fn from(e: Malformed) -> Error {
+        plain(ErrorKind::InvalidResponse(e))
+    }
+}
+
 impl From<BsonError> for Error {
     ghost from_gives = { λ b e. e ≡ plain (bson_kind b) };
 
