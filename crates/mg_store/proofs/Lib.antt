@@ -7,6 +7,7 @@ pub mod Seeing
 pub mod Requesting
 pub mod Committing
 pub mod Keeping
+pub mod Performing
 pub mod Holdings
 pub mod Killing
 pub mod Maps

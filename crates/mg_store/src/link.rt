@@ -12,7 +12,7 @@ ghost use Rattle.mg_store.specs.Sending.{HandsOver, HeardAt, Hearing, Honest, Po
 ghost use Rattle.mg_store.specs.Stored.{AreOpen, Performs};
 
 use crate::fate::{Fate, FateKind, kind_at, pend_at};
-use crate::store::Store;
+use crate::store::{Store, steps_taken};
 use mg_bson::{RawDocument, RawDocumentBuf};
 use mg_link::{
     Link, LinkError, Log, LoggedCall, OutOfMemory, Polled, Receipt, Seen, Ticket, push_reserved,
@@ -63,15 +63,6 @@ impl Wait {
     }
 }
 
-/// Performs a command, and gives the reply. An error changes nothing.
-fn perform(store: &mut Store, command: RawDocument<'_>) -> Result<RawDocumentBuf, OutOfMemory>
-    ensures performed { IfOk result (Performed (by_rules command.entry) store.old store.new command.entry) }
-    ensures err { OnErr result (store.new ≡ store.old) }
-{
-    let receipt = store.perform(command)?;
-    Ok(receipt.reply)
-}
-
 /// Refuses a command, and gives the reply. An error changes nothing.
 fn refuse(
     store: &mut Store,
@@ -83,8 +74,7 @@ fn refuse(
     ensures performed { IfOk result (Performed (λ _. refusal code (map string_bytes labels.now.items)) store.old store.new command.entry) }
     ensures err { OnErr result (store.new ≡ store.old) }
 {
-    let receipt = store.refuse(command, code, labels.as_slice())?;
-    Ok(receipt.reply)
+    store.refuse_with(&command, code, labels.as_slice())
 }
 
 /// Performs of a command what its fate says, and gives the reply that is to come. An error changes nothing.
@@ -98,21 +88,14 @@ fn take_effect(
     ensures err { OnErr result (store.new ≡ store.old) }
 {
     match kind {
-        FateKind::Keep => Ok(Some(perform(store, command)?)),
+        FateKind::Keep => Ok(Some(store.answer(&command)?)),
         FateKind::Lose => {
-            let _lost = perform(store, command)?;
+            let _lost = store.answer(&command)?;
             Ok(None)
         }
         FateKind::Drop => Ok(None),
         FateKind::Refuse { code, labels } => Ok(Some(refuse(store, command, *code, labels)?)),
     }
-}
-
-/// How many steps the store took.
-fn steps_taken(store: &Store) -> u64
-    ensures { result ≡ length store.now.history }
-{
-    store.history().len() as u64
 }
 
 /// The position that the step of a command gets.

@@ -1,5 +1,5 @@
 //! The store.
-ghost use Rattle.std.specs.Prelude.{◌≡◌, ◌<◌, ◌≤◌, [], length, map, suc, pos, string_bytes, IfOk, OnErr};
+ghost use Rattle.std.specs.Prelude.{◌≡◌, ◌<◌, ◌≤◌, ◌++◌, [], ◌∷◌, length, map, suc, pos, string_bytes, IfOk, OnErr};
 ghost use Rattle.mg_bson.specs.Bytes.{bytes};
 ghost use Rattle.mg_bson.specs.Raw.{fields};
 ghost use Rattle.mg_server.specs.History.{IsLegal};
@@ -10,6 +10,7 @@ ghost use Rattle.mg_server.specs.Rules.{answer_of, refusal};
 ghost use Rattle.mg_server.specs.Step.{documents_of};
 ghost use Rattle.mg_store.specs.Contents.{MayKeep};
 ghost use Rattle.mg_store.specs.Holding.{AreExact, entries_from};
+ghost use Rattle.mg_store.specs.InMemory.{Performed, by_rules};
 ghost use Rattle.mg_store.specs.Stored.{AreOpen, Performs, Stored, kept_of};
 
 use crate::change::ChangeEntry;
@@ -70,29 +71,45 @@ impl Store {
         ensures reply { IfOk result (λ r. IsReply (answer_of (state_of_kept self.old.history) (pos (suc (given_of self.old.history))) (fields command.entry)).reply r.reply) }
         ensures err { OnErr result (self.new ≡ self.old) }
     {
-        let answer = self.content.answer(self.alloc, &command)?;
+        let position = steps_taken(self);
+        let kept = copy(self.alloc, &command)?;
+        let reply = self.answer(&command)?;
+        Ok(Receipt {
+            position,
+            command: kept,
+            reply,
+        })
+    }
+
+    /// Performs a command and keeps the step: its reply.
+    pub(crate) fn answer(
+        &mut self,
+        command: &RawDocument<'_>,
+    ) -> Result<RawDocumentBuf, OutOfMemory>
+        ensures performed { IfOk result (Performed (by_rules command.now) self.old self.new command.now) }
+        ensures err { OnErr result (self.new ≡ self.old) }
+    {
+        let answer = self.content.answer(self.alloc, command)?;
         self.keep(command, answer)
     }
 
-    /// Does what the answer does, and keeps the step. Where memory runs out nothing changes.
-    fn keep(&mut self, command: RawDocument<'_>, answer: Answer) -> Result<Receipt, OutOfMemory>
-        requires { MayKeep self.old.history command answer }
-        ensures step { IfOk result (λ r. Performs self.old self.new command.entry r) }
-        ensures reply { IfOk result (λ r. r.reply ≡ answer.reply) }
+    /// Does what the answer does, and keeps the step: its reply. Where memory runs out nothing changes.
+    fn keep(
+        &mut self,
+        command: &RawDocument<'_>,
+        answer: Answer,
+    ) -> Result<RawDocumentBuf, OutOfMemory>
+        requires { MayKeep self.old.history command.now answer }
+        ensures step { IfOk result (λ r. self.new.history ≡ self.old.history ++ record { command = command.now; reply = r } ∷ []) }
+        ensures reply { IfOk result (λ r. r ≡ answer.reply) }
         ensures err { OnErr result (self.new ≡ self.old) }
     {
-        let position = self.history.len() as u64;
-        let step = step_of(self.alloc, &command, &answer.reply)?;
-        let command = copy(self.alloc, &command)?;
+        let step = step_of(self.alloc, command, &answer.reply)?;
         let Answer { reply, effect } = answer;
         self.history.reserve(1)?;
         effect.commit(&mut self.content)?;
         push_reserved(&mut self.history, step);
-        Ok(Receipt {
-            position,
-            command,
-            reply,
-        })
+        Ok(reply)
     }
 
     /// Refuses a command with this code and these labels, and keeps the step. The reply has at most 47,000,000 bytes. A
@@ -109,8 +126,29 @@ impl Store {
         ensures reply { IfOk result (λ r. IsReply (refusal code (map string_bytes labels.now)) r.reply) }
         ensures err { OnErr result (self.new ≡ self.old) }
     {
+        let position = steps_taken(self);
+        let kept = copy(self.alloc, &command)?;
+        let reply = self.refuse_with(&command, code, labels)?;
+        Ok(Receipt {
+            position,
+            command: kept,
+            reply,
+        })
+    }
+
+    /// Refuses a command with this code and these labels, and keeps the step: its reply.
+    pub(crate) fn refuse_with(
+        &mut self,
+        command: &RawDocument<'_>,
+        code: i32,
+        labels: &[String],
+    ) -> Result<RawDocumentBuf, OutOfMemory>
+        requires { length (bytes (refusal code (map string_bytes labels.now))) ≤ 47000000 }
+        ensures performed { IfOk result (Performed (λ _. refusal code (map string_bytes labels.now)) self.old self.new command.now) }
+        ensures err { OnErr result (self.new ≡ self.old) }
+    {
         let Answer { reply, effect: _ } = refused(self.alloc, code, labels)?;
-        let effect = closing(ends_cursor(code), continued_cursor(&command));
+        let effect = closing(ends_cursor(code), continued_cursor(command));
         self.keep(command, Answer { reply, effect })
     }
 
@@ -157,6 +195,13 @@ impl Store {
     {
         Ok(self.content.cursors.keys().copied().collect(self.alloc)?)
     }
+}
+
+/// How many steps the store took.
+pub(crate) fn steps_taken(store: &Store) -> u64
+    ensures { result ≡ length store.now.history }
+{
+    store.history().len() as u64
 }
 
 /// The step of a command and its reply, of copies of both.
