@@ -1,9 +1,10 @@
 //! Values that tests are made of.
 use mg_bson::{Bson, BsonError, Document, RawDocument, RawDocumentBuf, to_bytes, to_document};
+use mg_json::document_text;
 use mg_link::{Error, Namespace};
 use mg_ops::{Find, Insert};
 use mg_options::{FindOptions, InsertManyOptions};
-use mg_script::{json_text, value_from_json};
+use mg_script::value_from_json;
 use serde_json::Value;
 use std::alloc::{AllocError, Global};
 
@@ -119,7 +120,7 @@ pub fn bytes_at(alloc: Global, digits: &str) -> Result<Vec<u8>, Error> {
 
 /// A document as its JSON text.
 pub fn document_word(alloc: Global, document: RawDocument<'_>) -> Result<String, Error> {
-    let value = Bson::Document(to_document(alloc, document)?);
-    let json = json_text(alloc, &value)?;
+    let document = to_document(alloc, document)?;
+    let json = document_text(alloc, &document)?;
     written(format!(in alloc; "/{json}"))
 }

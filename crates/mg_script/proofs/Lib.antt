@@ -1,4 +1,3 @@
 pub mod Steps
 pub mod Digits
-pub mod Printed
 pub mod Lines

@@ -4,5 +4,4 @@ pub mod Places
 pub mod Parts
 pub mod Values
 pub mod Script
-pub mod Json
 pub mod Text

@@ -11,7 +11,7 @@ use Rattle.mg_link.specs.declared.error.GridFsErrorKind.{GridFsErrorKind}
 use Rattle.mg_link.specs.declared.error.GridFsErrorKind.TheVariants as files
 use Rattle.mg_link.specs.declared.error.IndexedFailure.{IndexedFailure}
 use Rattle.mg_link.specs.Log.{Call}
-use Rattle.mg_script.specs.Json.{value_text}
+use Rattle.mg_json.specs.Json.{value_text}
 use Rattle.mg_script.specs.declared.outcome.Ended.{Ended}
 use Rattle.mg_script.specs.declared.outcome.Ended.TheVariants as ended
 use Rattle.mg_script.specs.declared.outcome.Answer.{Answer}

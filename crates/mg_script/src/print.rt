@@ -2,12 +2,12 @@
 ghost use Rattle.std.specs.Prelude.{◌≡◌, ◌++◌, IfOk, OnOk, codes, decimal, string_bytes};
 ghost use Rattle.mg_bson.specs.Tree.{document};
 ghost use Rattle.mg_bson.specs.Raw.{fields};
-ghost use Rattle.mg_script.specs.Json.{value_text};
+ghost use Rattle.mg_json.specs.Json.{value_text};
 ghost use Rattle.mg_script.specs.Text.{coded, file_text, error_text, bytes_text, count_text, ended_text, get_line, line, token_text, token_line, closed_text, closed_line, opened_text, answer_text, answer_line, answers_text, outcome_text, open_line, commands_of, text_of};
 
-use crate::json::value_text;
 use crate::outcome::{Answer, Ended, Outcome, Run};
-use mg_bson::{Bson, RawDocumentBuf, to_document};
+use mg_bson::{RawDocumentBuf, to_document};
+use mg_json::{document_text, value_text};
 use mg_link::{Error, ErrorKind, GridFsErrorKind, Log};
 use mg_options::ResumeToken;
 use std::alloc::{AllocError, Global};
@@ -65,7 +65,7 @@ fn event_text(alloc: Global, event: &RawDocumentBuf) -> Result<String, AllocErro
     ensures { IfOk result (λ s. string_bytes s ≡ value_text (document (fields event.now))) }
 {
     match to_document(alloc, event.as_raw()) {
-        Ok(document) => value_text(alloc, &Bson::Document(document)),
+        Ok(document) => document_text(alloc, &document),
         Err(_) => Err(AllocError),
     }
 }

@@ -1,5 +1,5 @@
 use super::raw_at;
-use mg_script::json_text;
+use mg_json::value_text;
 use std::alloc::Global;
 use std::process::Abort;
 
@@ -34,7 +34,7 @@ pub(super) fn json(rt: &impl Abort, alloc: Global, digits: &str) -> String {
     match raw.as_raw().get("x") {
         Some(value) => {
             let value = value.to_value(alloc).expect(rt, "memory");
-            json_text(alloc, &value).expect(rt, "memory")
+            value_text(alloc, &value).expect(rt, "memory")
         }
         None => String::new(alloc),
     }

@@ -2,6 +2,7 @@ use super::commands::{journaled, local, nearest};
 use super::{copied, failed, keys, one_field, owned, text};
 use crate::parted;
 use mg_bson::{Bson, Document};
+use mg_json::document_text;
 use mg_link::{
     Acknowledgment, Error, ReadConcern, ReadPreference, SelectionCriteria, WriteConcern,
 };
@@ -12,7 +13,6 @@ use mg_options::{
     InsertOneOptions, ListCollectionsOptions, ListIndexesOptions, append_concerns,
 };
 use mg_records::{DistinctOptions, DropIndexOptions, EstimatedDocumentCountOptions};
-use mg_script::json_text;
 use std::alloc::Global;
 use std::process::Abort;
 
@@ -48,7 +48,7 @@ pub(super) fn body_text(rt: &impl Abort, alloc: Global, body: Document) -> Strin
     for (name, _) in &body {
         write!(text, "{name} ").expect(rt, "memory");
     }
-    let json = json_text(alloc, &Bson::Document(body)).expect(rt, "memory");
+    let json = document_text(alloc, &body).expect(rt, "memory");
     text.push_str(json.as_str()).expect(rt, "memory");
     text
 }

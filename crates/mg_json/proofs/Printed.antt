@@ -13,7 +13,7 @@ use Rattle.mg_bson.specs.Tree as bson
 use Rattle.mg_bson.specs.Tree.{tree_size, items_size}
 use Rattle.mg_bson.specs.View.{tree, items_of}
 use Rattle.mg_bson.specs.declared.tree.Bson.{Bson}
-use Rattle.mg_script.specs.Json.{json_of, items_json, fields_json, binary_json, scoped_json}
+use Rattle.mg_json.specs.Json.{json_of, items_json, fields_json, binary_json, scoped_json}
 
 -- ---- the parts are smaller
 

@@ -3,9 +3,9 @@ use Rattle.serde_json.specs.Data.{no_members}
 use Rattle.serde_json.specs.View.{view, members_view}
 use Rattle.mg_bson.specs.Tree.{fields_size}
 use Rattle.mg_bson.specs.View.{tree, items_of}
-use Rattle.mg_script.specs.Json.{items_json, fields_json}
-use Rattle.mg_script.proofs.Printed.{item_small, items_made, items_all, fields_made}
-use Rattle.mg_script.proofs.json.+json.Goals as goal
+use Rattle.mg_json.specs.Json.{items_json, fields_json}
+use Rattle.mg_json.proofs.Printed.{item_small, items_made, items_all, fields_made}
+use Rattle.mg_json.proofs.json.+json.Goals as goal
 
 pub json_items-json_value-requires : goal.json_items-json_value-requires
 json_items-json_value-requires t c = (omega (arith, c.decreases, item_small c.args.items.now c.loop-item.item-index c.item-item.result (omega arith) c.item-item.is), tt)

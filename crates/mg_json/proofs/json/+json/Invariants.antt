@@ -3,9 +3,9 @@ use Rattle.serde_json.specs.Data.{no_members}
 use Rattle.serde_json.specs.View.{members_view}
 use Rattle.mg_bson.specs.Tree.{tree_size, fields_size, items_size}
 use Rattle.mg_bson.specs.View.{tree, items_of}
-use Rattle.mg_script.specs.Json.{items_json, fields_json}
-use Rattle.mg_script.proofs.Printed.{items_then}
-use Rattle.mg_script.proofs.json.+json.Given as goal
+use Rattle.mg_json.specs.Json.{items_json, fields_json}
+use Rattle.mg_json.proofs.Printed.{items_then}
+use Rattle.mg_json.proofs.json.+json.Given as goal
 
 abbrev pub decreases-json_value : goal.decreases-json_value
 decreases-json_value l = tree_size (tree l.value.now)
