@@ -2,10 +2,10 @@
 ghost use Rattle.std.specs.Prelude.{◌≡◌};
 
 use crate::follow::POLLS;
+use mg_actions::run;
 use mg_bson::{Bson, Document};
-use mg_exec::Exec;
-use mg_link::{Action, Error, ErrorKind, Link, Namespace, Step, plain};
-use mg_ops::{Insert, Operation, encode};
+use mg_link::{Error, ErrorKind, ImplicitClientSessionHandle, Link, Namespace, Step, plain};
+use mg_ops::Insert;
 use mg_options::InsertManyOptions;
 use std::alloc::Global;
 
@@ -29,10 +29,10 @@ pub fn insert<L: Link>(alloc: Global, link: &mut L, ns: &Namespace, id: &str) ->
     ensures { L.wire link.new ≡ L.wire link.old }
 {
     let insert = insert_of(alloc, ns, id)?;
-    let command = encode(alloc, &insert, link.wire_version(), None)?;
-    match Exec::start(command, insert.retry(None)).run(link, POLLS) {
+    let mut no_session = ImplicitClientSessionHandle(None);
+    match run(alloc, link, &insert, &mut no_session, POLLS) {
         Step::Pending(_) => Err(plain(ErrorKind::Io)),
-        Step::Done(reply) => insert.read(alloc, reply),
+        Step::Done(inserted) => Ok(inserted),
         Step::Failed(error) => Err(error),
     }
 }

@@ -1,0 +1,6 @@
+//! Operations as a user sends them.
+#![tactic(auto)]
+
+mod running;
+
+pub use running::run;
