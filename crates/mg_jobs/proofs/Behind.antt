@@ -42,7 +42,7 @@ use Rattle.mg_jobs.proofs.StepsAt.{next_state}
 -- ---- states of a history
 
 -- a file that is left from one position up to another, which may lie behind the history
-stays_until : (history : List Step) (b : Bucket) (id : Tree) (from upto : ℕ) → from ≤ upto → from ≤ length history
+pub stays_until : (history : List Step) (b : Bucket) (id : Tree) (from upto : ℕ) → from ≤ upto → from ≤ length history
     → ((position : ℕ) (step : Step) → from ≤ position → position < upto → slice_get history position ≡ Some step → LeavesFile (state_of (take position history)) step b id)
     → file_of (state_of (take upto history)) b id ≡ file_of (state_of (take from history)) b id
 stays_until history b id from upto le within leaves = elim (cases_lt (length history) upto) [

@@ -83,12 +83,12 @@ module _ (awaited : Awaited) (c : Course) (j i : ℕ) (calls : List Call) (wire 
   abbrev ReadsBehind : Type 0
   ReadsBehind = (e : Error) → IsNamed (chunks_space g.at) → HasReadOther c i calls g.at g.id e → BlamesBehind c j i calls t e
 
-  at_end : ReadsBehind → (bytes : List ℕ) (end : Ended (Unit {0})) → GetGave c i calls g bytes end → GetCaused awaited c i calls wire g (length bytes) end → GetBehind c j i calls t end
+  at_end : ReadsBehind → (bytes : List ℕ) (end : Ended (Unit {0})) → GetGave c i calls g bytes end → GetCaused awaited c i calls wire g bytes end → GetBehind c j i calls t end
   at_end behind bytes ended.Unfinished gave caused = tt
   at_end behind bytes (ended.Gave x) gave caused = tt
-  at_end behind bytes (ended.Failed e) gave caused = λ blames. behind e (blamed_named c i calls wire g (length bytes) e caused.0 blames) (gave.0 blames).1
+  at_end behind bytes (ended.Failed e) gave caused = λ blames. behind e (blamed_named c i calls wire g bytes e caused.0 blames) (gave.0 blames).1
 
-  of_get : ReadsBehind → (r : Outcome) → OfGet (λ bytes end. GetGave c i calls g bytes.items end) r → OfGet (λ bytes end. GetCaused awaited c i calls wire g (length bytes.items) end) r → OfGet (λ bytes end. GetBehind c j i calls t end) r
+  of_get : ReadsBehind → (r : Outcome) → OfGet (λ bytes end. GetGave c i calls g bytes.items end) r → OfGet (λ bytes end. GetCaused awaited c i calls wire g bytes.items end) r → OfGet (λ bytes end. GetBehind c j i calls t end) r
   of_get behind (outcome.Get bytes end) gave caused = at_end behind bytes.items end gave caused
   of_get behind (outcome.Insert end) gave caused = absurd gave
   of_get behind (outcome.Follow opened said token alive closed) gave caused = absurd gave
@@ -103,7 +103,7 @@ module _ (awaited : Awaited) (c : Course) (j i : ℕ) (calls : List Call) (wire 
   its_get = get_of db bucket id read
 
   one_behind : SendsOnly (IsPutCommand supply its_put) c j calls → (o : Outcome) → OfPut (λ end. PutEnds awaited c j calls wire supply its_put end) o → OfPut (λ end. PutLeft c j calls its_put end) o
-      → (r : Outcome) → OfGet (λ bytes end. GetGave c i calls its_get bytes.items end) r → OfGet (λ bytes end. GetCaused awaited c i calls wire its_get (length bytes.items) end) r → OfGet (λ bytes end. GetBehind c j i calls its_put end) r
+      → (r : Outcome) → OfGet (λ bytes end. GetGave c i calls its_get bytes.items end) r → OfGet (λ bytes end. GetCaused awaited c i calls wire its_get bytes.items end) r → OfGet (λ bytes end. GetBehind c j i calls its_put end) r
   one_behind sends (outcome.Put end) ends left r gave caused =
       of_get awaited c j i calls wire its_put its_get
       (λ e named reads. blames_behind c j i calls supply its_put e named (put_whole c j calls its_put end left) (put_once awaited c j calls wire supply its_put end ends named) sends reads) r gave caused

@@ -519,10 +519,10 @@ jobs_end_well awaited c i begun calls wire supply (get db bucket id read) r whol
     let k : ℕ = turns_done i c.order c.notes in
     let last : Bool = pends_last i c.order c.notes in
     let g : GetTask = get_of db bucket id read in
-    get_both (λ bytes end. GetCaused awaited c i calls wire g (length bytes.items) end × GetPlayed end (length bytes.items) k last read) (λ bytes end. SendsOnly (IsGetCommand g) c i calls × GetGave c i calls g bytes.items end) (λ bytes end. (answers : AnswersWell c i calls) → GetWell (IsExcusedGet (IsHeard c i calls) g) c i calls answers.history g end)
+    get_both (λ bytes end. GetCaused awaited c i calls wire g bytes.items end × GetPlayed end (length bytes.items) k last read) (λ bytes end. SendsOnly (IsGetCommand g) c i calls × GetGave c i calls g bytes.items end) (λ bytes end. (answers : AnswersWell c i calls) → GetWell (IsExcusedGet (IsHeard c i calls) g) c i calls answers.history g end)
     (λ bytes end why gave well named some its stands turns. get_well c i begun calls wire whole faultless well g named some its stands gave.0 awaited end bytes.items k last why.0 why.1 gave.1 turns)
     r
-    (get_both (λ bytes end. GetCaused awaited c i calls wire g (length bytes.items) end) (λ bytes end. GetPlayed end (length bytes.items) k last read) (λ bytes end. GetCaused awaited c i calls wire g (length bytes.items) end × GetPlayed end (length bytes.items) k last read) (λ bytes end why plays. (why, plays)) r caused played)
+    (get_both (λ bytes end. GetCaused awaited c i calls wire g bytes.items end) (λ bytes end. GetPlayed end (length bytes.items) k last read) (λ bytes end. GetCaused awaited c i calls wire g bytes.items end × GetPlayed end (length bytes.items) k last read) (λ bytes end why plays. (why, plays)) r caused played)
     got
 
 -- ---- a job that fits the limits

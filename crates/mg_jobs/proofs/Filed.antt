@@ -1,5 +1,5 @@
 -- What becomes of files, by the steps of their jobs.
-use Rattle.std.proofs.Common.{◌≡◌, ◌⊎◌, ◌+◌, ◌-◌, ◌<◌, ◌≤◌, ◌++◌, ◌∷◌, [], ℕ, zero, suc, ℤ, List, Option, Some, None, option_map, length, take, refl, sym, ap, ◌∙◌, subst, inl, inr, arith, append-nil, append_assoc}
+use Rattle.std.proofs.Common.{◌≡◌, ◌⊎◌, ◌+◌, ◌-◌, ◌<◌, ◌≤◌, ◌++◌, ◌∷◌, [], ℕ, zero, suc, ℤ, List, Option, Some, None, Ok, option_map, length, take, refl, sym, ap, ◌∙◌, subst, inl, inr, arith, append-nil, append_assoc}
 use Rattle.std.specs.Prelude.{codes, option_and_then, slice_get, unwrap_or}
 use Rattle.std.specs.List.{concat}
 use Rattle.std.proofs.lemmas.List.{take_all}
@@ -37,22 +37,23 @@ use Rattle.mg_gridfs.proofs.Meaning.{IsReading, find_reads, leaves_by, read_leav
 use Rattle.mg_gridfs.proofs.ReadBack.{download_reads_until, stays_at}
 use Rattle.mg_records.specs.FileRecords.{FileRecord, file_record_of}
 use Rattle.mg_players.specs.Causes.{AllSentIn, Course, SentIn, places_of, sent_at}
-use Rattle.mg_players.specs.Files.{AllHold, AsksAt, FindsBroken, FirstHold, FoundFirst, HasReadOther, IsFirstStepOf, IsLastStepOf, IsStepOf, LeftNoChunk, LeftWhole, NeverWhole, OthersLeave, OthersLeaveFrom, ReadsFile, no_record, not_counted, other_chunks}
+use Rattle.mg_players.specs.Files.{AllHold, AsksAt, FindsBroken, FirstHold, FoundFirst, HasReadOther, IsFirstStepOf, IsLastStepOf, IsStepOf, LeftNoChunk, LeftWhole, ListsSo, NeverWhole, OthersLeave, OthersLeaveFrom, ReadsFile, no_record, not_counted, other_chunks}
 use Rattle.mg_players.specs.Gets.{GetKnowsAt, GetTask, IsGetCommand, chunks_find, for_chunks, for_more, for_record, get_end, more_chunks, record_find, sought}
-use Rattle.mg_players.specs.Headline.{GaveFront, GetGave, GetPlays}
+use Rattle.mg_players.specs.Headline.{GaveFront, GetGave, GetPlays, HasGivenFront}
 use Rattle.mg_players.specs.Plays.{Places}
 use Rattle.mg_players.specs.Reading.{EndsAsListed}
 use Rattle.mg_players.specs.Puts.{PutTask, joined, put_aim}
 use Rattle.mg_players.specs.Sends.{SendsOnly}
-use Rattle.mg_players.specs.Telling.{AllSent, GetTells, TellsGetOpened}
+use Rattle.mg_players.specs.Telling as tells
+use Rattle.mg_players.specs.Telling.{AllSent, GetTells, HasFront, TellsAsked, TellsGetOpened}
 use Rattle.mg_players.specs.declared.get.GetPlayer.{GetPlayer}
 use Rattle.mg_players.specs.declared.get.GetStage.{GetStage}
 use Rattle.mg_players.specs.declared.get.GetStage.TheVariants as gets
 use Rattle.mg_script.specs.declared.outcome.Ended.TheVariants as ended
 use Rattle.mg_players.proofs.GetBlamed.{Blamed, FoundAt, OwnAt, blamed, found_at}
 use Rattle.mg_players.proofs.GetBroken.{Broke, broke, count_broke, record_broke}
-use Rattle.mg_players.proofs.GetDiffering.{whole_never}
-use Rattle.mg_players.proofs.GetEnding.{ListsSo, ended_lists, front_lists}
+use Rattle.mg_players.proofs.GetDiffering.{whole_begins, whole_never}
+use Rattle.mg_players.proofs.GetEnding.{ended_lists, front_lists}
 use Rattle.mg_jobs.proofs.FindFirst.{find_first}
 use Rattle.mg_jobs.proofs.PlacesRise.{Rise, of_rise, rise_first}
 use Rattle.mg_jobs.proofs.Positions.{place_sent, sent_place}
@@ -93,7 +94,7 @@ module _ (c : Course) (i : ℕ) (calls : List Call) (wire : ℤ) (places : List 
       }
 
 -- behind the last step of the job nobody touches the file
-left_behind : (c : Course) (i : ℕ) (calls : List Call) (history : List Step) (b : Bucket) (id : Tree) (last upto position : ℕ) (step : Step) → OthersLeave c i calls history b id → IsLastStepOf c i calls last → last < upto → upto ≤ position → slice_get history position ≡ Some step
+pub left_behind : (c : Course) (i : ℕ) (calls : List Call) (history : List Step) (b : Bucket) (id : Tree) (last upto position : ℕ) (step : Step) → OthersLeave c i calls history b id → IsLastStepOf c i calls last → last < upto → upto ≤ position → slice_get history position ≡ Some step
     → LeavesFile (state_of (take position history)) step b id
 left_behind c i calls history b id last upto position step leave is_last behind from found =
     let early = leave.later last is_last.own in
@@ -286,6 +287,24 @@ module _ (c : Course) (i n : ℕ) (calls : List Call) (wire : ℤ) (g : GetTask)
     lists_at : (history : List Step) → Stands calls history → (position : ℕ) → call.position ≡ Some position → AsksAt history position (chunks_query (chunks_space g.at) f.id)
     lists_at history stands position placed = let s = stands.same listed call position there placed in record { step = s.0; there = s.1; asks = ap asked s.2 ∙ asks }
 
+  -- where its file was whole before its first step, and untouched, that is its record
+  record_same : SendsOnly (IsGetCommand g) c i calls → (history : List Step) → IsLegal history → Stands calls history → (first last : ℕ) → IsFirstStepOf c i calls first → IsLastStepOf c i calls last → OthersLeaveFrom c i calls history g.at g.id first last
+      → (whole : List ℕ) (size : ℕ) (w : IsWhole (state_of (take first history)) g.at g.id whole size) → file_record_of w.record_of ≡ Ok f
+  record_same sends history legal stands first last is_first is_last leave whole size w =
+      let x = its_record history legal stands in
+      let leaves = all_leave c i calls g sends history legal stands first last is_first is_last leave in
+      let low = is_first.first x.position (found_own history x) in
+      let high = is_last.last x.position (found_own history x) in
+      let step = stands.same x.step.place x.step.call x.position x.step.there x.step.placed in
+      let within = get_within history x.position step.0 step.1 in
+      let m : ℕ = suc x.position - first in
+      let all : first + m ≡ suc x.position = omega (arith, low) in
+      let same : file_of (state_of (take (suc x.position) history)) g.at g.id ≡ file_of (state_of (take first history)) g.at g.id
+      = subst (λ (k : ℕ). file_of (state_of (take k history)) g.at g.id ≡ file_of (state_of (take first history)) g.at g.id) all
+      (quiet_stays history g.at g.id first m (omega (arith, all, within)) (λ p own lower higher found. leaves p own lower (omega (arith, all, high, higher)) found)) in
+      let first_is : x.first ≡ w.record_of = same_some x.first w.record_of (ap (λ (l : List Fields). slice_get l 0) (sym x.stood ∙ ap (λ (y : File). y.records) same ∙ w.alone)) in
+      ap file_record_of (sym first_is) ∙ x.reads_as
+
   -- what it read so
   reads_file : (Hold : FileRecord → List ℕ → List Fields → Type 0) (bytes : List ℕ) (listed : ℕ) → IsOf q.opened listed → ((f.length ≡ 0) × (bytes ≡ [])) ⊎ ListsSo calls g.at f listed (Hold f bytes) → (history : List Step) → IsLegal history → Stands calls history → ReadsFile Hold c i calls history g.at g.id f bytes
   reads_file Hold bytes listed own so history legal stands =
@@ -312,19 +331,9 @@ module _ (c : Course) (i n : ℕ) (calls : List Call) (wire : ℤ) (g : GetTask)
   -- it is not so of a whole file
   never_whole : SendsOnly (IsGetCommand g) c i calls → NeverWhole c i calls g.at g.id
   never_whole sends history legal stands first last is_first is_last leave whole size w =
-      let x = blamed_record history legal stands in
       let leaves = all_leave c i calls g sends history legal stands first last is_first is_last leave in
-      let low = is_first.first x.position (blamed_own history x) in
-      let high = is_last.last x.position (blamed_own history x) in
-      let step = stands.same x.step.place x.step.call x.position x.step.there x.step.placed in
-      let within = get_within history x.position step.0 step.1 in
-      let m : ℕ = suc x.position - first in
-      let all : first + m ≡ suc x.position = omega (arith, low) in
-      let same : file_of (state_of (take (suc x.position) history)) g.at g.id ≡ file_of (state_of (take first history)) g.at g.id
-      = subst (λ (k : ℕ). file_of (state_of (take k history)) g.at g.id ≡ file_of (state_of (take first history)) g.at g.id) all
-      (quiet_stays history g.at g.id first m (omega (arith, all, within)) (λ p own lower higher found. leaves p own lower (omega (arith, all, high, higher)) found)) in
-      let first_is : x.first ≡ w.record_of = same_some x.first w.record_of (ap (λ (l : List Fields). slice_get l 0) (sym x.stood ∙ ap (λ (f : File). f.records) same ∙ w.alone)) in
-      whole_never calls g.at g.id b.file b.listed e b.other history legal stands whole size first (suc last) w (ap file_record_of (sym first_is) ∙ x.reads_as) leaves
+      let its = record_same c i n calls wire g q sent b.file b.at b.opened sends history legal stands first last is_first is_last leave whole size w in
+      whole_never calls g.at g.id b.file b.listed e b.other history legal stands whole size first (suc last) w its leaves
       (own_between c i calls g sends history legal stands first last is_first is_last leave 0 b.listed (sent.opened b.listed b.own))
 
   -- what it found and listed
@@ -353,6 +362,27 @@ found_broken c i n calls wire g q sent e history legal stands (inl (record_broke
 found_broken c i n calls wire g q sent e history legal stands (inl (count_broke opened own finds first more stood f reads breaks)) =
     not_counted (record { opened = opened; found_so = its_own c i n calls wire q.now sent.now opened own; finds = finds; first = first; more = more; stood = stood }) f reads breaks
 found_broken c i n calls wire g q sent e history legal stands (inr b) = other_chunks (read_other c i n calls wire g q sent e b history legal stands)
+
+-- ---- the bytes of a get that failed
+
+-- what it gave begins the file
+front_filed : (c : Course) (i n : ℕ) (calls : List Call) (wire : ℤ) (g : GetTask) (q : Places) (sent : AllSent c i q n) (f : FileRecord) (at : Option ℕ) (opened : TellsGetOpened calls wire q g f at) (bytes : List ℕ) → SendsOnly (IsGetCommand g) c i calls → HasFront calls g f bytes at → HasGivenFront c i calls g bytes
+front_filed c i n calls wire g q sent f at opened bytes sends h =
+    let own : IsOf q.opened h.listed = opened.listed h.listed h.here in (
+      λ history legal stands first last is_first is_last leave whole size w.
+          let leaves = all_leave c i calls g sends history legal stands first last is_first is_last leave in
+          let its = record_same c i n calls wire g q sent f at opened sends history legal stands first last is_first is_last leave whole size w in
+          let r = whole_begins calls g.at g.id f h.listed (bytes ++ h.more) h.count h.counted h.lists history legal stands whole size first (suc last) w its leaves (own_between c i calls g sends history legal stands first last is_first is_last leave 0 h.listed (sent.opened h.listed own)) in
+          (h.more ++ r.0, r.1 ∙ append_assoc bytes h.more r.0),
+      inr (record { file = f; more = h.more; reads = reads_file c i n calls wire g q sent f at opened FirstHold (bytes ++ h.more) h.listed own (inr h.lists) }),
+    )
+
+asked_filed : (c : Course) (i n : ℕ) (calls : List Call) (wire : ℤ) (g : GetTask) (q : Places) (bytes : List ℕ) (done : ℕ) → AllSent c i q n → SendsOnly (IsGetCommand g) c i calls → TellsAsked calls wire q g bytes done → HasGivenFront c i calls g bytes
+asked_filed c i n calls wire g q bytes done sent sends (tells.in_opening silent first none found asks) = (nothing_front c i calls g bytes none, inl none)
+asked_filed c i n calls wire g q bytes done sent sends (tells.behind_it f at opened counted front last read_so) = elim front [
+  | inl none ↦ (nothing_front c i calls g bytes none, inl none)
+  | inr h ↦ front_filed c i n calls wire g q sent f at opened bytes sends h
+]
 
 -- ---- all of a get
 
@@ -391,8 +421,9 @@ stage_filed awaited c i n calls wire g (gets.Ended (ended.Gave x)) bytes done at
       },
     )
 stage_filed awaited c i n calls wire g (gets.Ended (ended.Failed e)) bytes done at q k t sent sends = (
-  λ blames. let b = blamed calls wire q g done e t.0 blames in (never_whole c i n calls wire g q sent e b sends, read_other c i n calls wire g q sent e b),
-  λ says named history legal stands. found_broken c i n calls wire g q sent e history legal stands (broke calls wire q g done e t.0 says named history legal stands),
+  λ blames. let b = blamed calls wire q g bytes done e t.0 blames in (never_whole c i n calls wire g q sent e b sends, read_other c i n calls wire g q sent e b),
+  λ says named history legal stands. found_broken c i n calls wire g q sent e history legal stands (broke calls wire q g bytes done e t.0 says named history legal stands),
+  asked_filed c i n calls wire g q bytes done sent sends t.1,
 )
 
 -- What a get knows and tells at the end of a run says whose bytes it gave.

@@ -192,7 +192,7 @@ module _ (awaited : Awaited) (c : Course) (i : ℕ) (calls : List Call) (wire : 
   outcome_kept supply (put db bucket name id chunk pieces) k pended (outcome.Follow opened said token alive closed) caused played = absurd caused
   outcome_kept supply (put db bucket name id chunk pieces) k pended (outcome.Insert end) caused played = absurd caused
   outcome_kept supply (put db bucket name id chunk pieces) k pended (outcome.Get bytes end) caused played = absurd caused
-  outcome_kept supply (get db bucket id read) k pended (outcome.Get bytes end) caused played = get_reads c i calls wire (get_of db bucket id read) (length bytes.items) awaited end caused
+  outcome_kept supply (get db bucket id read) k pended (outcome.Get bytes end) caused played = get_reads c i calls wire (get_of db bucket id read) bytes.items awaited end caused
   outcome_kept supply (get db bucket id read) k pended (outcome.Follow opened said token alive closed) caused played = absurd caused
   outcome_kept supply (get db bucket id read) k pended (outcome.Insert end) caused played = absurd caused
   outcome_kept supply (get db bucket id read) k pended (outcome.Put end) caused played = absurd caused

@@ -40,6 +40,7 @@ use Rattle.mg_gridfs.specs.ReadCauses.{HeardRecord}
 use Rattle.mg_gridfs.proofs.OneFile.{first_meets, one_file, same_key}
 use Rattle.mg_records.specs.FileRecords.{FileRecord}
 use Rattle.mg_players.specs.Asking.{AsksOnBy, TellsAt}
+use Rattle.mg_gridfs.specs.Downloads.{ClientDownload}
 use Rattle.mg_players.specs.Causes.{Course, FallsAt, GetStands, SentIn, has_opened, places_of, sent_at, unopened}
 use Rattle.mg_players.specs.Files.{IsStepOf}
 use Rattle.mg_players.specs.Buckets.{plain_bucket}
@@ -158,7 +159,7 @@ module _ (history : List Kept) (fates : List Fate) (kept : AreKept 0 fates) (cal
 
   -- ---- a get
 
-  module _ (c : Course) (i : ℕ) (g : GetTask) (wire : ℤ) (amount : ℕ) (stood_so : GetStands c i calls wire g amount) (owned : (place : ℕ) → IsOf (places_of c i) place → place < length calls → (k : ℕ) × SentIn c i k place) (whose : (place : ℕ) → place < length calls → (j : ℕ) × IsOf (places_of c j) place)
+  module _ (c : Course) (i : ℕ) (g : GetTask) (wire : ℤ) (bytes_so_far : List ℕ) (well : ℕ) (stood_so : GetStands c i calls wire g bytes_so_far well (λ (now : List ℕ). Unit {0}) (λ (last : ClientDownload) (now : List ℕ). Unit {0})) (owned : (place : ℕ) → IsOf (places_of c i) place → place < length calls → (k : ℕ) × SentIn c i k place) (whose : (place : ℕ) → place < length calls → (j : ℕ) × IsOf (places_of c j) place)
       (names : (j : ℕ) → NamesNoOthers calls c j) (sends : SendsOnly (IsGetCommand g) c i calls) (may : HasShortFiles g.at) (bytes : List ℕ) (whole : StandsWhole c i calls (steps_of history) g bytes) where
     abbrev its : List ℕ
     its = places_of c i
@@ -235,9 +236,9 @@ module _ (history : List Kept) (fates : List Fate) (kept : AreKept 0 fates) (cal
     kind_of : (place : ℕ) (call : Call) → IsOf its place → slice_get calls place ≡ Some call → IsKind place call
     kind_of place call of there = by_stands stood_so
       where
-        by_stands : GetStands c i calls wire g amount → IsKind place call
-        by_stands (unopened none sent found asks) = find_kind found (places_of c i) asks.finds asks.heard place call of there
-        by_stands (has_opened f o k now s) =
+        by_stands : GetStands c i calls wire g bytes_so_far well (λ (now : List ℕ). Unit {0}) (λ (last : ClientDownload) (now : List ℕ). Unit {0}) → IsKind place call
+        by_stands (unopened none empty sent so found asks) = find_kind found (places_of c i) asks.finds asks.heard place call of there
+        by_stands (has_opened f o k is now so s last read goes) =
             elim (of_either o.places (concat s.owns ++ now) place (subst (λ (l : List ℕ). IsOf l place) (sym s.whole) of)) [
               | inl first ↦ find_kind (Some f) o.places o.finds (λ x is. subst (λ (y : Option FileRecord). HeardRecord (sent_at o.places calls wire) (plain_bucket g.at) g.id y) is o.heard) place call first there
               | inr behind ↦ asks_on (subst (λ (l : List ℕ). AsksOnBy calls (λ (n : ℕ). IsOf l n) place) s.whole (s.more place behind))

@@ -351,18 +351,18 @@ module _ (c : Course) (i : ℕ) (begun calls : List Call) (wire : ℤ) (begun_is
     of_call : (k : ℕ) (places : List ℕ) → AllSentIn c i k places → AreSentIn c i places
     of_call k places sent place of = (k, sent place of)
 
-    fails_well : (given : ℕ) (e : Error) → GetFails c i calls wire g given e → IsExcusedGet (IsHeard c i calls) g e
+    fails_well : (given : List ℕ) (e : Error) → GetFails c i calls wire g given e → IsExcusedGet (IsHeard c i calls) g e
     fails_well given e (causes.out_of_memory room) = inl room
     fails_well given e (causes.has_no_room none is) = absurd (omega (arith, some, none))
     fails_well given e (causes.not_opened more places sent fails whole) = opening_well places (of_call 0 places sent) e fails
-    fails_well given e (causes.not_read more d opened k turned places sent cursor fails its firm plainly behind stopped) =
+    fails_well given e (causes.not_read more d opened k turned places sent cursor fails its firm plainly behind last stopped read came) =
         stops_well stopped.places stopped.sent d.file stopped.listed e (heard_file opened.places (of_call 0 opened.places opened.sent) d.file opened.heard) stopped.by_opening stopped.why
 
-    pub get_well : (awaited : Awaited) (end : Ended (Unit {0})) (given : List ℕ) (k : ℕ) (last : Bool) → GetCaused awaited c i calls wire g (length given) end → GetPlayed end (length given) k last g.read → GetGave c i calls g given end → length bytes + 2 ≤ k → EndsWell (IsExcusedGet (IsHeard c i calls) g) end
+    pub get_well : (awaited : Awaited) (end : Ended (Unit {0})) (given : List ℕ) (k : ℕ) (last : Bool) → GetCaused awaited c i calls wire g given end → GetPlayed end (length given) k last g.read → GetGave c i calls g given end → length bytes + 2 ≤ k → EndsWell (IsExcusedGet (IsHeard c i calls) g) end
     get_well awaited ended.Unfinished given k last caused played front turns =
         let r = front.0 well.history well.legal well.stands s.first s.last s.is_first s.is_last s.alone bytes s.size s.whole in
         let long : length bytes ≡ length given + length r.0 = ap (length {A = ℕ}) r.1 ∙ length-append given r.0 in
         let few = played.0 in
         absurd (omega (arith, long, few, turns))
     get_well awaited (ended.Gave x) given k last caused played gave turns = tt
-    get_well awaited (ended.Failed e) given k last caused played gave turns = fails_well (length given) e caused.0
+    get_well awaited (ended.Failed e) given k last caused played gave turns = fails_well given e caused.0

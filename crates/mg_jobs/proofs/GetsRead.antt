@@ -130,12 +130,12 @@ module _ (history : List Step) (calls : List Call) (wire : ℤ) (legal : IsLegal
   stop_reads g f listed e (stops.too_many empty never is) none = says_only e kind.EmptyBatches is none
   stop_reads g f listed e (stops.differs other) none = let d = other.differ history legal stands in differ_reads f other.count _ e d.2 none
 
-module _ (c : Course) (i : ℕ) (calls : List Call) (wire : ℤ) (g : GetTask) (bytes : ℕ) where
+module _ (c : Course) (i : ℕ) (calls : List Call) (wire : ℤ) (g : GetTask) (bytes : List ℕ) where
   fail_reads : (e : Error) → GetFails c i calls wire g bytes e → (history : List Step) → IsLegal history → Stands calls history → SaysNoDocument e.kind → ⊥
   fail_reads e (causes.out_of_memory room) history legal stands none = of_kind e kind.OutOfMemory room none
   fail_reads e (causes.has_no_room empty is) history legal stands none = says_only e (kind.InvalidArgument argument.ReadSize) is none
   fail_reads e (causes.not_opened some places sent fails all) history legal stands none = opening_reads history calls wire legal stands places g e fails none
-  fail_reads e (causes.not_read some d opened k turns now sent cursor fails its sound plainly asks stopped) history legal stands none = stop_reads history calls wire legal stands stopped.places g d.file stopped.listed e stopped.why none
+  fail_reads e (causes.not_read some d opened k turns now sent cursor fails its sound plainly asks last stopped read came) history legal stands none = stop_reads history calls wire legal stands stopped.places g d.file stopped.listed e stopped.why none
 
   pub get_reads : {A : Type 0} (awaited : Awaited) (end : Ended A) → GetCaused awaited c i calls wire g bytes end → NeverEnds calls SaysNoDocument end
   get_reads awaited ended.Unfinished caused = tt

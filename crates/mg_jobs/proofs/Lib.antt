@@ -76,3 +76,4 @@ pub mod GetsRead
 pub mod ListedIndexes
 pub mod PutsKept
 pub mod Garbled
+pub mod PutMakes

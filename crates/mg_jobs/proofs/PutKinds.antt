@@ -115,7 +115,7 @@ module _ (calls : List Call) (t : PutTask) where
 
     part_kinds : (at : Place) (low : ℕ) (places : List ℕ) (commands : List Fields) → Rise low places → commands_at calls places ≡ commands → SendsPart past B at commands → AreKinds places
     part_kinds at low places commands rise are (to_creation n few is) = plain_kinds places commands are (subst (Each IsPlain) (sym is) (each_time IsPlain n (creation B at) (λ place. creates at refl)))
-    part_kinds at low places commands rise are (to_listing heard n few is) =
+    part_kinds at low places commands rise are (to_listing heard n few again is) =
         behind_kinds at low places commands rise are (record { more = replicate n (listing B at); parts = is; behind = each_time (IsBehind at) n (listing B at) (inl refl) })
     part_kinds at low places commands rise are (to_list heard list) = behind_kinds at low places commands rise are (list_begins past at commands list)
     part_kinds at low places commands rise are (to_index heard listed n few ends) = behind_kinds at low places commands rise are (index_begins past at n commands ends)
@@ -129,7 +129,7 @@ module _ (calls : List Call) (t : PutTask) where
         (kinds_on p.front p.back (find_kinds find.count p.front h.0 p.first find.parts) (whole_kinds which.Files low p.back h.1 (rise_second p.front p.back low (subst (Rise low) p.whole rise)) p.second h.4))
 
     check_kinds : (low : ℕ) (places : List ℕ) (commands : List Fields) → Rise low places → commands_at calls places ≡ commands → CheckSends past B commands → AreKinds places
-    check_kinds low places commands rise are (to_find n few is) = find_kinds n places commands are is
+    check_kinds low places commands rise are (to_find n few again is) = find_kinds n places commands are is
     check_kinds low places commands rise are (to_part at h) =
         let p = parts_at calls places h.front h.part (are ∙ h.parts) in
         let rises = subst (Rise low) p.whole rise in

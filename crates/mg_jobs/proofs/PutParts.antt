@@ -149,7 +149,7 @@ module _ (past : Past) (b : ClientBucket) where
 
   part_each : (k : Place) (commands : List Fields) → SendsPart past b k commands → AreOfCheck commands
   part_each k commands (to_creation n few is) = subst AreOfCheck (sym is) (so_often n (creation_lines b k) (a_creation k refl))
-  part_each k commands (to_listing heard n few is) = subst AreOfCheck (sym is) (created k, so_often n (listing_lines b k) (a_listing k refl))
+  part_each k commands (to_listing heard n few again is) = subst AreOfCheck (sym is) (created k, so_often n (listing_lines b k) (a_listing k refl))
   part_each k commands (to_list heard list) = list_each k commands list
   part_each k commands (to_index heard listed n few ends) = index_each k n commands ends
 
@@ -163,7 +163,7 @@ module _ (past : Past) (b : ClientBucket) where
       subst AreOfCheck (sym h.2) (each_on (IsCheckCommand b) h.0 h.1 (find_each find.count h.0 find.parts) (whole_each place.Files h.1 h.4))
 
   check_each : (commands : List Fields) → CheckSends past b commands → AreOfCheck commands
-  check_each commands (to_find n few is) = find_each n commands is
+  check_each commands (to_find n few again is) = find_each n commands is
   check_each commands (to_part k h) = subst AreOfCheck (sym h.parts) (each_on (IsCheckCommand b) h.front h.part (before_each k h.front h.before) (part_each k h.part h.its))
 
 -- ---- which is which

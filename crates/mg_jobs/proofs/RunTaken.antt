@@ -25,7 +25,8 @@ use Rattle.mg_script.specs.declared.outcome.Outcome.{Outcome}
 use Rattle.mg_script.specs.declared.outcome.Outcome.TheVariants as outcome
 use Rattle.mg_turns.specs.declared.turned.Turned.{Turned}
 use Rattle.mg_script.specs.declared.script.Job.{Job}
-use Rattle.mg_players.specs.Causes.{AllSentIn, Course, FollowCaused, GetCaused, GetStands, InsertEnds, OutcomeCaused, PutEnds, commands_at, course, has_opened, places_of, sent_at}
+use Rattle.mg_players.specs.Causes.{AllSentIn, Course, FollowCaused, GetCaused, ReadGoesOn, GetStands, InsertEnds, OutcomeCaused, PutEnds, SentIfPends, commands_at, course, has_opened, places_of, sent_at, unopened}
+use Rattle.mg_gridfs.specs.Downloads.{ClientDownload}
 use Rattle.mg_jobs.specs.Completing.{EndsWell, HasShortFiles, JobTaken, JobWell, JobWellIn, NoneRefused, SendFresh, own_excuses, positions_at}
 use Rattle.mg_jobs.specs.Own.{IsHeard}
 use Rattle.mg_jobs.specs.PutLimits.{IsExcusedPut, IsValidPut}
@@ -54,13 +55,20 @@ use Rattle.mg_jobs.proofs.Whose.{owned, whose}
 -- ---- what a get sent
 
 -- what it sent as it stands, however it ended
-end_stands : (awaited : Awaited) (c : Course) (i : ℕ) (calls : List Call) (wire : ℤ) (g : GetTask) (bytes : ℕ) (end : Ended (Unit {0})) → GetCaused awaited c i calls wire g bytes end → GetStands c i calls wire g bytes
-end_stands awaited c i calls wire g bytes ended.Unfinished k = k.1
-end_stands awaited c i calls wire g bytes (ended.Gave x) k = has_opened k.1 k.2 k.3 k.5 k.6
-end_stands awaited c i calls wire g bytes (ended.Failed e) k = k.1
+abbrev HasSentSo : Course → ℕ → List Call → ℤ → GetTask → List ℕ → Type 0
+HasSentSo c i calls wire g bytes = (well : ℕ) × GetStands c i calls wire g bytes well (λ (now : List ℕ). Unit {0}) (λ (last : ClientDownload) (now : List ℕ). Unit {0})
 
-get_stands : (awaited : Awaited) (c : Course) (i : ℕ) (calls : List Call) (wire : ℤ) (g : GetTask) (r : Outcome) → OfGet (λ bytes end. GetCaused awaited c i calls wire g (length bytes.items) end) r → (n : ℕ) × GetStands c i calls wire g n
-get_stands awaited c i calls wire g (outcome.Get bytes end) why = (length bytes.items, end_stands awaited c i calls wire g (length bytes.items) end why)
+loose : (c : Course) (i : ℕ) (calls : List Call) (wire : ℤ) (g : GetTask) (bytes : List ℕ) (well : ℕ) (So : List ℕ → Type 0) (Goes : ClientDownload → List ℕ → Type 0) → GetStands c i calls wire g bytes well So Goes → GetStands c i calls wire g bytes well (λ (now : List ℕ). Unit {0}) (λ (last : ClientDownload) (now : List ℕ). Unit {0})
+loose c i calls wire g bytes well So Goes (unopened none empty sent so found asks) = unopened none empty sent tt found asks
+loose c i calls wire g bytes well So Goes (has_opened f opened k is now so sent last read goes) = has_opened f opened k is now tt sent last read tt
+
+end_stands : (awaited : Awaited) (c : Course) (i : ℕ) (calls : List Call) (wire : ℤ) (g : GetTask) (bytes : List ℕ) (end : Ended (Unit {0})) → GetCaused awaited c i calls wire g bytes end → HasSentSo c i calls wire g bytes
+end_stands awaited c i calls wire g bytes ended.Unfinished k = (turns_done i c.order c.notes, loose c i calls wire g bytes (turns_done i c.order c.notes) (SentIfPends c i) (ReadGoesOn awaited c i calls wire g) k.1)
+end_stands awaited c i calls wire g bytes (ended.Gave x) k = (suc k.3, has_opened k.1 k.2 k.3 refl k.5 tt k.6 k.7 k.8 tt)
+end_stands awaited c i calls wire g bytes (ended.Failed e) k = (k.1.well, k.1.stands)
+
+get_stands : (awaited : Awaited) (c : Course) (i : ℕ) (calls : List Call) (wire : ℤ) (g : GetTask) (r : Outcome) → OfGet (λ bytes end. GetCaused awaited c i calls wire g bytes.items end) r → (given : List ℕ) × HasSentSo c i calls wire g given
+get_stands awaited c i calls wire g (outcome.Get bytes end) why = (bytes.items, end_stands awaited c i calls wire g bytes.items end why)
 get_stands awaited c i calls wire g (outcome.Insert end) why = absurd why
 get_stands awaited c i calls wire g (outcome.Follow opened said token alive closed) why = absurd why
 get_stands awaited c i calls wire g (outcome.Put end) why = absurd why
@@ -117,7 +125,7 @@ module _ (history : List Kept) (fates : List Fate) (kept : AreKept 0 fates) (cal
   takes i supply-i (get db bucket id read) r its why plays = λ may bytes whole.
       let g : GetTask = get_of db bucket id read in
       let s = get_stands awaited turns i calls wire g r why in
-      get_taken history fates kept calls pended as_fates stands alone ruled mild legal prompt turns i g wire s.0 s.1 (owned calls order notes abreast started i) (whose calls order notes abreast started) names its may bytes whole
+      get_taken history fates kept calls pended as_fates stands alone ruled mild legal prompt turns i g wire s.0 s.1.0 s.1.1 (owned calls order notes abreast started i) (whose calls order notes abreast started) names its may bytes whole
 
   takes_sent : (i : ℕ) (t : Task) (r : Outcome) → slice_get ts i ≡ Some t → slice_get rs i ≡ Some r → JobTaken turns i calls (steps_of history) (as_sent supply.ids ts order i t)
   takes_sent i t r ht hr = takes i (supply_of supply ts order i) (as_sent supply.ids ts order i t) r (sends i t ht) (caused i t r ht hr) (played i t r ht hr)

@@ -464,7 +464,7 @@ outcome_of_job supply ts awaited c i calls wire (player.Put job) r o at of is_at
 outcome_of_job supply ts awaited c i calls wire (player.Get job) r o at of is_at plays told =
     subst (λ (x : Outcome). OutcomeOfTask supply ts awaited c i calls wire (task_of (player.Get job)) x) (sym of) (
       tt,
-      get_caused awaited c i calls wire told.places (sought job.what) (length job.bytes.items) job.stage job.bytes.items job.done at told.sent told.tells is_at,
+      get_caused awaited c i calls wire told.places (sought job.what) job.bytes.items job.stage job.done at told.sent told.tells is_at,
       get_filed awaited c i job.done calls wire job o at told.places plays told.tells told.sent told.sends,
     )
 

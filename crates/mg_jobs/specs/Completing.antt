@@ -29,7 +29,7 @@ use Rattle.mg_records.specs.FileRecords.{FileRecord, file_record_of}
 use Rattle.mg_gridfs.specs.Findings.{ReadsRecord}
 use Rattle.mg_players.specs.Causes.{Course, SentIn, course, places_of}
 use Rattle.mg_players.specs.Drawing.{as_sent}
-use Rattle.mg_players.specs.Files.{IsFirstStepOf, IsLastStepOf, OthersLeaveFrom}
+use Rattle.mg_players.specs.Files.{IsFirstStepOf, IsLastStepOf, OthersLeave, OthersLeaveFrom}
 use Rattle.mg_players.specs.Follows.{IsArgsFor, IsWatch}
 use Rattle.mg_players.specs.Kinds.{OfFollow, OfGet, OfInsert, OfPut}
 use Rattle.mg_players.specs.Gets.{GetTask, IsGetCommand, chunks_find, get_of, more_chunks, record_find}
@@ -37,7 +37,7 @@ use Rattle.mg_players.specs.Headline.{GetGave}
 use Rattle.mg_ops.specs.InsertCauses.{IsPiece}
 use Rattle.mg_jobs.specs.Own.{IsHeard, IsHeardBefore, IsOwnCommand, IsOwnCursor}
 use Rattle.mg_jobs.specs.PutLimits.{CannotPut, HasFewIndexes, IsExcusedPut, IsValidPut}
-use Rattle.mg_players.specs.Puts.{put_of}
+use Rattle.mg_players.specs.Puts.{PutTask, joined, put_of}
 use Rattle.mg_script.specs.Plan.{Begin, Task, insert, follow, put, get}
 use Rattle.mg_players.specs.Progress.{turns_done}
 use Rattle.mg_players.specs.Sends.{SendsOnly}
@@ -219,6 +219,16 @@ pub record StandsWhole (c : Course) (i : ℕ) (calls : List Call) (history : Lis
   pub file : FileRecord
   pub read : file_record_of whole.record_of ≡ Ok file
   pub few : length (chunked size bytes) < 2 ^ 32
+
+-- a get asks for the file that a put writes
+abbrev pub FileIsOf : PutTask → GetTask → Type 0
+FileIsOf t g = (g.at ≡ t.at) × (g.id ≡ t.id)
+
+-- A get of job j of the file that job i put has its first step behind the last one of that put, and nobody but that put touches the file: its file is whole, as it must be
+-- for the get to end well.
+abbrev pub MakesWhole : Course → (i j : ℕ) → List Call → PutTask → Type 0
+MakesWhole c i j calls t = (history : List Step) → IsLegal history → Stands calls history → OthersLeave c i calls history t.at t.id → (last : ℕ) → IsLastStepOf c i calls last
+    → (g : GetTask) → FileIsOf t g → (first to : ℕ) → IsFirstStepOf c j calls first → IsLastStepOf c j calls to → last < first → StandsWhole c j calls history g (joined t.pieces)
 
 -- in this history a get of a file that is whole, with two turns more than it has bytes, ends well, where its database has a name and it reads some bytes a turn
 abbrev pub GetWell : (Error → Type 0) → Course → ℕ → List Call → List Step → GetTask → Ended (Unit {0}) → Type 0

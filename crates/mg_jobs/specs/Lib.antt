@@ -4,7 +4,7 @@ pub use Rattle.mg_script.specs.Places
 pub use Rattle.mg_script.specs.Parts
 pub use Rattle.mg_script.specs.Values
 pub use Rattle.mg_script.specs.Script
-pub use Rattle.mg_script.specs.Json
+pub use Rattle.mg_json.specs.Json
 pub use Rattle.mg_script.specs.Text
 pub mod Program
 pub mod Own

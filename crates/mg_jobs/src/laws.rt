@@ -12,15 +12,16 @@ ghost use Rattle.mg_server.specs.Standing.{Stands};
 ghost use Rattle.mg_server.specs.State.{documents_at};
 ghost use Rattle.mg_server.specs.Step.{documents_of};
 ghost use Rattle.mg_ops.specs.Appended.{Appended, InsertsAt};
-ghost use Rattle.mg_players.specs.Causes.{Course, OutcomeCaused};
-ghost use Rattle.mg_jobs.specs.Completing.{JobWell, OutcomeGot};
+ghost use Rattle.mg_players.specs.Causes.{Course, OutcomeCaused, PutEnds};
+ghost use Rattle.mg_jobs.specs.Completing.{JobWell, MakesWhole, OutcomeGot};
 ghost use Rattle.mg_turns.specs.Counts.{Faultless};
 ghost use Rattle.mg_script.specs.Plan.{Task};
+ghost use Rattle.mg_script.specs.declared.outcome.Ended.TheVariants.{Gave};
 ghost use Rattle.mg_script.specs.declared.outcome.Outcome.{Outcome};
 ghost use Rattle.mg_jobs.specs.declared.program.Ending.{Ending};
 ghost use Rattle.mg_jobs.specs.Program.{Caused, IsOf};
 ghost use Rattle.mg_players.specs.Progress.{IsPlayed, pends_last, turns_done};
-ghost use Rattle.mg_players.specs.Puts.{Supply};
+ghost use Rattle.mg_players.specs.Puts.{PutTask, Supply};
 
 /// Where it is known what is left in a source, this decides what came of it: each ending that is not a failed read or
 /// want of memory comes exactly where the bytes are too many, or no script with this first fault, or a script whose order
@@ -70,4 +71,11 @@ pub fn jobs_end_well()
     ensures { (awaited : Awaited) (c : Course) (i : ℕ) (begun calls : List Call) (wire : ℤ) (supply : Supply) (t : Task) (r : Outcome)
         → length begun ≡ c.begun → Faultless begun calls → OutcomeCaused awaited c i calls wire supply t r
         → IsPlayed t (turns_done i c.order c.notes) (pends_last i c.order c.notes) r → OutcomeGot c i calls t r → JobWell c i calls t r }
+{}
+
+/// A put of the run that ended well makes the file of each get behind it whole: so the get is one that ends well where its server holds
+/// nothing back. The get's first step has to be behind the put's last one, and nobody but the put may touch the file.
+pub fn puts_make_files()
+    ensures { (awaited : Awaited) (c : Course) (i j : ℕ) (calls : List Call) (wire : ℤ) (supply : Supply) (t : PutTask) (n : ℕ)
+        → PutEnds awaited c i calls wire supply t (Gave n) → MakesWhole c i j calls t }
 {}

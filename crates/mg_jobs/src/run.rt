@@ -10,6 +10,7 @@ ghost use Rattle.mg_players.specs.Drawing.{DrawsAt, HaveDrawn, drawn_in, supplie
 ghost use Rattle.mg_players.specs.Runs.{AreHeld, AreNew, AreSameJobs, CanGo, Draws, Goes, IsReady, IsSameJob, has_ended, idle};
 ghost use Rattle.mg_jobs.specs.Runners.{Stands, job_ended, notes_of, players_of};
 ghost use Rattle.mg_players.specs.Blaming.{AllBehind};
+ghost use Rattle.mg_players.specs.Losses.{AllLoseBy, AllLostBy, JobLost, LosesBy};
 ghost use Rattle.mg_players.specs.Headline.{AllFiled, AllFollowed, AreFirst, GoesOnNaming, DoTasks, Knowing, OutcomesOf};
 ghost use Rattle.mg_script.specs.Plan.{Task, tasks};
 ghost use Rattle.mg_players.specs.Progress.{AllAt, AllPlayed, GoesBy, TurnsBy};
@@ -67,6 +68,7 @@ fn counted_since<'a, L: Link, B: Began>(link: L, turn: Turn<'a>) -> (L, Gone<'a>
     ensures noted { IsNoted result.1.note B.calls (L.log result.0) B.pends (L.pends result.0) B.prompts (L.prompt result.0) }
     ensures polled { PolledNewest result.1.note.pended (job_ticket turn.entry.player) (job_ticket result.1.player) (L.awaited link) (L.awaited result.0) (L.log link) (L.log result.0) (L.polls link) (L.polls result.0) }
     ensures comes { GoesBy result.1.note turn.entry.player result.1.player }
+    ensures lost { LosesBy JobLost (L.faults link) (L.faults result.0) (L.pends link) (L.pends result.0) turn.entry.player result.1.player }
 {
     let Turn {
         alloc,
@@ -89,6 +91,7 @@ fn counted<'a, L: Link>(link: L, turn: Turn<'a>) -> (L, Gone<'a>)
     ensures noted { IsNoted result.1.note (L.log link) (L.log result.0) (L.pends link) (L.pends result.0) (L.prompt link) (L.prompt result.0) }
     ensures polled { PolledNewest result.1.note.pended (job_ticket turn.entry.player) (job_ticket result.1.player) (L.awaited link) (L.awaited result.0) (L.log link) (L.log result.0) (L.polls link) (L.polls result.0) }
     ensures comes { GoesBy result.1.note turn.entry.player result.1.player }
+    ensures lost { LosesBy JobLost (L.faults link) (L.faults result.0) (L.pends link) (L.pends result.0) turn.entry.player result.1.player }
 {
     counted_since::<L, Brand>(link, turn)
 }
@@ -109,6 +112,7 @@ fn turn_of<'a, L: Link, I: IdSource>(
     ensures noted { IfOk result (λ n. IsNoted n (L.log link.old) (L.log link.new) (L.pends link.old) (L.pends link.new) (L.prompt link.old) (L.prompt link.new)) }
     ensures polled { IfOk result (λ n. PolledNewest n.pended (job_ticket player.old) (job_ticket player.new) (L.awaited link.old) (L.awaited link.new) (L.log link.old) (L.log link.new) (L.polls link.old) (L.polls link.new)) }
     ensures comes { IfOk result (λ n. TurnsBy n player.old player.new) }
+    ensures lost { LosesBy JobLost (L.faults link.old) (L.faults link.new) (L.pends link.old) (L.pends link.new) player.old player.new }
     ensures draws { OnOk result (Draws (I.ids ids.old) (I.ids ids.new) player.old player.new) }
     ensures ended { has_ended player.old ≡ true → (result ≡ Ok idle) × (link.new ≡ link.old) × (player.new ≡ player.old) }
     ensures err { IfErr result (λ e. (e ≡ plain ErrorKind.OutOfMemory) × (link.new ≡ link.old) × (ids.new ≡ ids.old) × IsSameJob player.old player.new) }
@@ -193,6 +197,9 @@ impl<'a> Runner<'a> {
         ensures later { Later (L.faults link.old) (L.faults link.new) (L.pends link.old) (L.pends link.new)
             (L.wire link.old) (L.wire link.new) (L.prompt link.old) (L.prompt link.new) }
         ensures jobs { length (players_of self.new) ≡ length (players_of self.old) }
+        // A part of what a job tells says that a reply was lost only where it said so before, or the link counted a fault in this
+        // turn. A put says why it failed once its chunks are removed, and so maybe in a later turn.
+        ensures lost { AllLoseBy (L.faults link.old) (L.faults link.new) (L.pends link.old) (L.pends link.new) (players_of self.old) (players_of self.new) }
         // No ticket is out but those of jobs, and those that were out before.
         ensures none_lost { (before : Awaited) → AreHeld before (L.awaited link.old) (players_of self.old) → AreHeld before (L.awaited link.new) (players_of self.new) }
         // The jobs go on knowing what they should, and none touches a cursor of another.
@@ -284,6 +291,7 @@ fn play<L: Link, I: IdSource>(
     ensures prompt { L.prompt link.old → OnOk result (All (λ t. t.pended ≡ false) runner.new.turns.items) }
     ensures lossless { L.prompt link.old → OnOk result (LosesNothing (L.log link.old) (L.log link.new)) }
     ensures jobs { length runner.new.players.items ≡ length runner.old.players.items }
+    ensures lost { AllLoseBy (L.faults link.old) (L.faults link.new) (L.pends link.old) (L.pends link.new) runner.old.players.items runner.new.players.items }
     ensures none_lost { (before : Awaited) → AreHeld before (L.awaited link.old) runner.old.players.items → AreHeld before (L.awaited link.new) runner.new.players.items }
     ensures knowing { (begun : LogTold) → Knowing (L.awaited link.old) begun (L.log link.old) runner.old.players.items → Knowing (L.awaited link.new) begun (L.log link.new) runner.new.players.items }
     ensures tasks { (ts : List Task) → DoTasks ts runner.old.players.items → DoTasks ts runner.new.players.items }
@@ -323,6 +331,8 @@ pub fn run_jobs<L: Link, I: IdSource>(
     // E15 just where a number names no job, with the first such number; and otherwise want of memory.
     ensures missing { IfSome (first_missing (length jobs.now) order.now) (λ n. (result ≡ Err (plain (ErrorKind.NoSuchJob n))) × (link.new ≡ link.old) × (ids.new ≡ ids.old)) }
     ensures err { IfErr result (λ e. ((n : ℕ) × (e ≡ plain (ErrorKind.NoSuchJob n)) × (first_missing (length jobs.now) order.now ≡ Some n)) ⊎ (e ≡ plain ErrorKind.OutOfMemory)) }
+    // An outcome says that a reply was lost only where the link counted a fault in the run, or, of a put, where a reply pended.
+    ensures lost { IfOk result (λ p. AllLostBy (L.faults link.old) (L.faults link.new) (L.pends link.old) (L.pends link.new) p.outcomes.items) }
     // Where each call of the log named its own cursors only, that stays so, also where the run failed.
     ensures naming { GoesOnNaming (L.log link.old) (L.log link.new) }
     // Each follow answers consecutive matching entries from the opening place of its own aggregate on, each once, in order,

@@ -36,7 +36,7 @@ module _ (may : ℕ → Fields → Type 0) (calls : List Call) where
   falls_up : (n k : ℕ) (places : List ℕ) (m : ℕ) → n ≤ k → FallsAt may calls n places m → FallsAt may calls k places m
   falls_up n k places m less f = record { within = f.within; falling = falling_up may n k (commands_at calls places) m less f.falling }
 
-  falls_both : (n : ℕ) (xs : List ℕ) (k : ℕ) (ys : List ℕ) (m : ℕ) → FallsAt may calls n xs k → FallsAt may calls k ys m → FallsAt may calls n (xs ++ ys) m
+  pub falls_both : (n : ℕ) (xs : List ℕ) (k : ℕ) (ys : List ℕ) (m : ℕ) → FallsAt may calls n xs k → FallsAt may calls k ys m → FallsAt may calls n (xs ++ ys) m
   falls_both n xs k ys m f g = record {
     within = below_both xs ys (length calls) f.within g.within;
     falling = subst (λ (l : List Fields). Falling may n l m) (sym (at_both calls xs ys)) (falling_on may n (commands_at calls xs) k (commands_at calls ys) m f.falling g.falling);

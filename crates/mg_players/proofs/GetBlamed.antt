@@ -180,19 +180,19 @@ pub record Blamed (calls : List Call) (wire : ℤ) (q : Places) (g : GetTask) (e
   pub own : IsOf q.opened listed
   pub other : ListsOther calls g.at file listed e
 
-pub blamed : (calls : List Call) (wire : ℤ) (q : Places) (g : GetTask) (done : ℕ) (e : Error) → TellsGetFails calls wire q g done e → BlamesChunk e.kind → Blamed calls wire q g e
-blamed calls wire q g done e (tells.out_of_memory room) b = absurd (no_memory_blames e room b)
-blamed calls wire q g done e (tells.has_no_room none is) b = absurd (blames_by e (kind.InvalidArgument argument.ReadSize) is b)
-blamed calls wire q g done e (tells.not_opened some silent first fails) b = absurd (opening_blames (sent_at q.now calls wire) g e fails b)
-blamed calls wire q g done e (tells.not_read some more d at opened cursor fails its sound plain counted listed of held why) b =
+pub blamed : (calls : List Call) (wire : ℤ) (q : Places) (g : GetTask) (bytes : List ℕ) (done : ℕ) (e : Error) → TellsGetFails calls wire q g bytes done e → BlamesChunk e.kind → Blamed calls wire q g e
+blamed calls wire q g bytes done e (tells.out_of_memory room) b = absurd (no_memory_blames e room b)
+blamed calls wire q g bytes done e (tells.has_no_room none is) b = absurd (blames_by e (kind.InvalidArgument argument.ReadSize) is b)
+blamed calls wire q g bytes done e (tells.not_opened some silent first fails) b = absurd (opening_blames (sent_at q.now calls wire) g e fails b)
+blamed calls wire q g bytes done e (tells.not_read some more d at opened cursor fails its sound plain counted last listed of held why read_so came) b =
     record { file = d.file; at = at; opened = opened; listed = listed; own = of; other = stops_other (sent_at (all_places q) calls wire) (ListsOther calls g.at d.file listed e) e why b }
 
 -- the database of a get that blames one has a name
-pub blamed_named : (c : Course) (i : ℕ) (calls : List Call) (wire : ℤ) (g : GetTask) (bytes : ℕ) (e : Error) → GetFails c i calls wire g bytes e → BlamesChunk e.kind → IsNamed (chunks_space g.at)
+pub blamed_named : (c : Course) (i : ℕ) (calls : List Call) (wire : ℤ) (g : GetTask) (bytes : List ℕ) (e : Error) → GetFails c i calls wire g bytes e → BlamesChunk e.kind → IsNamed (chunks_space g.at)
 blamed_named c i calls wire g bytes e (causes.out_of_memory room) b = absurd (no_memory_blames e room b)
 blamed_named c i calls wire g bytes e (causes.has_no_room none is) b = absurd (blames_by e (kind.InvalidArgument argument.ReadSize) is b)
 blamed_named c i calls wire g bytes e (causes.not_opened some places sent fails whole) b = absurd (opening_blames (sent_at places calls wire) g e fails b)
-blamed_named c i calls wire g bytes e (causes.not_read some d opened k more places sent cursor fails its sound plain all stopped) b =
+blamed_named c i calls wire g bytes e (causes.not_read some d opened k more places sent cursor fails its sound plain all last stopped read_so came) b =
     (stops_other (sent_at stopped.places calls wire) (ListsOther calls g.at d.file stopped.listed e) e stopped.why b).named
 
 -- ---- the record that it found

@@ -163,9 +163,9 @@ module _ (past : Past) (history : List Step) (legal : IsLegal history) (stands :
   stops_says Other e (stops.differs other) b = other
 
 -- A get that says so found such a record, or chunks that are not what it says.
-pub broke : (calls : List Call) (wire : ℤ) (q : Places) (g : GetTask) (done : ℕ) (e : Error) → TellsGetFails calls wire q g done e → SaysBroken e.kind → as_database g.at.db ≡ Some g.at.db → (history : List Step) → IsLegal history → Stands calls history → Broke (sent_at q.now calls wire) history g e ⊎ Blamed calls wire q g e
-broke calls wire q g done e (tells.out_of_memory room) b named history legal stands = absurd (memory_says e room b)
-broke calls wire q g done e (tells.has_no_room none is) b named history legal stands = absurd (says_by e (kind.InvalidArgument argument.ReadSize) is b)
-broke calls wire q g done e (tells.not_opened some silent first fails) b named history legal stands = inl (opening_says (sent_at q.now calls wire) history legal stands g (chunks_named g.at named) e fails b)
-broke calls wire q g done e (tells.not_read some more d at opened cursor fails its sound plain counted listed of held why) b named history legal stands =
+pub broke : (calls : List Call) (wire : ℤ) (q : Places) (g : GetTask) (bytes : List ℕ) (done : ℕ) (e : Error) → TellsGetFails calls wire q g bytes done e → SaysBroken e.kind → as_database g.at.db ≡ Some g.at.db → (history : List Step) → IsLegal history → Stands calls history → Broke (sent_at q.now calls wire) history g e ⊎ Blamed calls wire q g e
+broke calls wire q g bytes done e (tells.out_of_memory room) b named history legal stands = absurd (memory_says e room b)
+broke calls wire q g bytes done e (tells.has_no_room none is) b named history legal stands = absurd (says_by e (kind.InvalidArgument argument.ReadSize) is b)
+broke calls wire q g bytes done e (tells.not_opened some silent first fails) b named history legal stands = inl (opening_says (sent_at q.now calls wire) history legal stands g (chunks_named g.at named) e fails b)
+broke calls wire q g bytes done e (tells.not_read some more d at opened cursor fails its sound plain counted last listed of held why read_so came) b named history legal stands =
     inr (record { file = d.file; at = at; opened = opened; listed = listed; own = of; other = stops_says (sent_at (all_places q) calls wire) history legal stands (ListsOther calls g.at d.file listed e) e why b })

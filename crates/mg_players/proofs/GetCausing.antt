@@ -32,16 +32,19 @@ use Rattle.mg_script.specs.declared.outcome.Ended.{Ended}
 use Rattle.mg_script.specs.declared.outcome.Ended.TheVariants as ended
 use Rattle.mg_players.specs.Asking.{AllAskOn}
 use Rattle.mg_players.specs.Causes as causes
-use Rattle.mg_players.specs.Causes.{AllSentIn, AreSentIn, Course, FallsAt, OpeningAsks, GetCaused, GetFails, GetOpened, GetSent, GetStands, GetWaits, places_of, sent_at}
+use Rattle.mg_players.specs.Causes.{AllSentIn, AreSentIn, Course, FallsAt, OpeningAsks, GetCaused, GetFails, GetOpened, GetSent, ReadGoesOn, GetStands, GetWaits, SentIfPends, places_of, sent_at}
 use Rattle.mg_players.specs.Buckets.{plain_bucket}
 use Rattle.mg_players.specs.Gets.{GetTask, IsFindAt, IsOpeningFor, get_end, more_chunks, no_manner, room_of}
 use Rattle.mg_players.specs.Plays.{Places, all_places}
+use Rattle.mg_players.specs.Reading.{GoesOn}
 use Rattle.mg_players.specs.Progress.{FitsReads, GetEndedAt, GetStageAt, pends_last, turns_done}
 use Rattle.mg_players.specs.Telling as tells
 use Rattle.mg_players.specs.Telling.{AllSent, GetTells, TellsAsked, TellsGetEnd, TellsGetFails, TellsGetOpened, TellsNoCall, finding_places, found_in}
 use Rattle.mg_players.specs.declared.get.GetStage.{GetStage}
 use Rattle.mg_players.specs.declared.get.GetStage.TheVariants as gets
+use Rattle.mg_turns.proofs.OwnTickets.{none_if}
 use Rattle.mg_players.proofs.Commands.{falls_below, falls_none}
+use Rattle.mg_players.proofs.GetFinds.{far_finds}
 use Rattle.mg_players.proofs.GetSending.{found_same, listed_same}
 use Rattle.mg_players.proofs.Whole.{only_now}
 use Rattle.mg_players.proofs.Telling.{in_either}
@@ -87,29 +90,27 @@ above : (n : ℕ) → 1 ≤ n → (k : ℕ) × (n ≡ suc k)
 above zero some = absurd (omega (arith, some))
 above (suc n) some = (n, refl)
 
--- without a call it gave nothing
-none_given : (bytes done room : ℕ) → done ≡ 0 → bytes ≤ (done - 1) * room → bytes ≡ 0
-none_given bytes done room first fits =
-    let less : done - 1 ≡ 0 = omega (arith, first) in
-    let at : bytes ≤ 0 * room = subst (λ (n : ℕ). bytes ≤ n * room) less fits in
-    let none : 0 * room ≡ 0 = omega arith in
-    omega (arith, at, none)
+-- none are no bytes
+none_in : (bytes : List ℕ) → length bytes ≡ 0 → bytes ≡ []
+none_in [] none = refl
+none_in (b ∷ bytes) none = absurd cc
 
 module _ (c : Course) (i : ℕ) (calls : List Call) (wire : ℤ) (q : Places) (g : GetTask) (done : ℕ) (sent : AllSent c i q done) where
   abbrev get_opened : (f : FileRecord) (at : Option ℕ) → TellsGetOpened calls wire q g f at → GetOpened c i calls wire g f
-  get_opened f at t = record { places = q.opened; sent = sent.opened; heard = t.heard; finds = t.finds }
+  get_opened f at t = record { places = q.opened; sent = sent.opened; heard = t.heard; finds = t.finds; sends = t.sends }
 
   -- without a call its turns sent what goes on alone
   alone : TellsNoCall q → q.now ≡ places_of c i
   alone none = sym (only_now q none.0 none.1) ∙ sent.whole
 
-  unopened_so : (bytes : ℕ) → bytes ≡ 0 → TellsNoCall q → done ≡ 0 → (found : Option FileRecord) → OpeningAsks calls wire g found q.now → GetStands c i calls wire g bytes
-  unopened_so bytes empty none first found asks = causes.unopened empty (subst (AllSentIn c i 0) (alone none) (subst (λ (n : ℕ). AllSentIn c i n q.now) first sent.now)) found (subst (OpeningAsks calls wire g found) (alone none) asks)
+  unopened_so : (bytes : List ℕ) (well : ℕ) (So : List ℕ → Type 0) (Goes : ClientDownload → List ℕ → Type 0) → well ≡ 0 → bytes ≡ [] → TellsNoCall q → done ≡ 0 → So q.now → (found : Option FileRecord) → OpeningAsks calls wire g found q.now → GetStands c i calls wire g bytes well So Goes
+  unopened_so bytes well So Goes none_well empty none first so found asks =
+      causes.unopened none_well empty (subst (AllSentIn c i 0) (alone none) (subst (λ (n : ℕ). AllSentIn c i n q.now) first sent.now)) (subst So (alone none) so) found (subst (OpeningAsks calls wire g found) (alone none) asks)
 
-  -- behind so many calls that gave so many bytes
-  module _ (bytes : ℕ) (few : done ≤ bytes + 1) (fits : FitsReads bytes done g.read) where
+  -- behind so many calls that gave these bytes
+  module _ (bytes : List ℕ) (few : done ≤ length bytes + 1) (fits : FitsReads (length bytes) done g.read) where
     -- its turns sent these
-    all_sent : (k : ℕ) → done ≡ suc k → suc (length q.owns) ≡ done → AllAskOn calls (all_places q) (concat q.owns ++ q.now) → GetSent c i calls g bytes q.opened k q.now
+    abbrev all_sent : (k : ℕ) → done ≡ suc k → suc (length q.owns) ≡ done → AllAskOn calls (all_places q) (concat q.owns ++ q.now) → GetSent c i calls g (length bytes) q.opened k q.now
     all_sent k is counted more = record {
       owns = q.owns;
       counted = omega (arith, is, counted);
@@ -117,30 +118,30 @@ module _ (c : Course) (i : ℕ) (calls : List Call) (wire : ℤ) (q : Places) (g
       sent_now = subst (λ (m : ℕ). AllSentIn c i m q.now) is sent.now;
       whole = sent.whole;
       more = more;
-      gave = (omega (arith, is, few), (let one : done - 1 ≡ k = omega (arith, is) in subst (λ (n : ℕ). bytes ≤ n * room_of g.read) one fits));
+      gave = (omega (arith, is, few), (let one : done - 1 ≡ k = omega (arith, is) in subst (λ (n : ℕ). length bytes ≤ n * room_of g.read) one fits));
     }
 
     -- all of it
-    asked_so : TellsAsked calls wire q g done → GetStands c i calls wire g bytes
-    asked_so (tells.in_opening silent first found asks) = unopened_so bytes (none_given bytes done (room_of g.read) first fits) silent first found asks
-    asked_so (tells.behind_it f at opened counted) = causes.has_opened f (get_opened f at opened) (length q.owns) q.now (all_sent (length q.owns) (sym counted) counted opened.more)
+    asked_so : TellsAsked calls wire q g bytes done → GetStands c i calls wire g bytes done (λ (now : List ℕ). Unit {0}) (λ (last : ClientDownload) (now : List ℕ). Unit {0})
+    asked_so (tells.in_opening silent first none found asks) = unopened_so bytes done (λ (now : List ℕ). Unit {0}) (λ (last : ClientDownload) (now : List ℕ). Unit {0}) first none silent first tt found asks
+    asked_so (tells.behind_it f at opened counted front last h) = causes.has_opened f (get_opened f at opened) (length q.owns) (sym counted) q.now tt (all_sent (length q.owns) (sym counted) counted opened.more) last h tt
 
-    get_fails : (e : Error) → done + 1 ≤ turns_done i c.order c.notes → TellsGetFails calls wire q g done e → GetFails c i calls wire g bytes e
+    get_fails : (e : Error) → done + 1 ≤ turns_done i c.order c.notes → TellsGetFails calls wire q g bytes done e → GetFails c i calls wire g bytes e
     get_fails e turned (tells.out_of_memory room) = causes.out_of_memory room
     get_fails e turned (tells.has_no_room none is) = causes.has_no_room none is
     get_fails e turned (tells.not_opened some silent first fails) = causes.not_opened some q.now (subst (λ (n : ℕ). AllSentIn c i n q.now) first sent.now) fails (alone silent)
-    get_fails e turned (tells.not_read some more d at opened cursor fails its sound plain counted listed of held why) =
+    get_fails e turned (tells.not_read some more d at opened cursor fails its sound plain counted last listed of held why h came) =
         let n = above done more in
-        causes.not_read some d (get_opened d.file at opened) n.0 (let is = n.1 in omega (arith, turned, is)) q.now (subst (λ (m : ℕ). AllSentIn c i m q.now) n.1 sent.now) cursor fails its sound plain (all_sent n.0 n.1 counted opened.more)
-        (record { places = all_places q; sent = all_own c i q done sent; listed = listed; by_opening = sent.opened listed of; held = held; why = why })
+        causes.not_read some d (get_opened d.file at opened) n.0 (let is = n.1 in omega (arith, turned, is)) q.now (subst (λ (m : ℕ). AllSentIn c i m q.now) n.1 sent.now) cursor fails its sound plain (all_sent n.0 n.1 counted opened.more) last
+        (record { places = all_places q; sent = all_own c i q done sent; listed = listed; by_opening = sent.opened listed of; held = held; why = why }) h came
 
-    get_end_caused : (awaited : Awaited) (end : Ended (Unit {0})) (given : List ℕ) (at : Option ℕ) → GetEndedAt end done (turns_done i c.order c.notes) → TellsGetEnd awaited calls wire q g given done at end → GetCaused awaited c i calls wire g bytes end
-    get_end_caused awaited ended.Unfinished given at turned t = absurd turned
-    get_end_caused awaited (ended.Gave x) given at turned t =
+    get_end_caused : (awaited : Awaited) (end : Ended (Unit {0})) (at : Option ℕ) → GetEndedAt end done (turns_done i c.order c.notes) → TellsGetEnd awaited calls wire q g bytes done at end → GetCaused awaited c i calls wire g bytes end
+    get_end_caused awaited ended.Unfinished at turned t = absurd turned
+    get_end_caused awaited (ended.Gave x) at turned t =
         let counted = t.3 in
         let many = turned.1 in
-        (t.0, t.1, get_opened t.1 at t.2, length q.owns, omega (arith, counted, many), q.now, all_sent (length q.owns) (sym t.3) t.3 t.2.more)
-    get_end_caused awaited (ended.Failed e) given at turned t = (get_fails e turned t.0, asked_so t.1)
+        (t.0, t.1, get_opened t.1 at t.2, length q.owns, omega (arith, counted, many), q.now, all_sent (length q.owns) (sym t.3) t.3 t.2.more, t.5, t.6, t.7)
+    get_end_caused awaited (ended.Failed e) at turned t = (get_fails e turned t.0, record { well = done; turned = omega (arith, turned); stands = asked_so t.1 })
 
 -- ---- what it heard
 
@@ -192,27 +193,28 @@ module _ (awaited : Awaited) (past : Past) where
 none_waits : (doing : Looking) → doing ≡ findings.starts → IsSome (findings.ticket_by doing) → ⊥
 none_waits doing is held = none_held (subst (λ (x : Looking). IsSome (findings.ticket_by x)) is held)
 
-module _ (awaited : Awaited) (c : Course) (i : ℕ) (calls : List Call) (wire : ℤ) (q : Places) (g : GetTask) (bytes : ℕ) where
-  opening_waits : (o : ClientFinding) (bucket : Option ClientBucket) → o.bucket ≡ bucket → AllSentIn c i 0 q.now → q.now ≡ places_of c i → IsOpeningFor g o → IsSoundFinding o → IsOpening awaited (sent_at q.now calls wire) o → IsSome (findings.finding_ticket o) → GetWaits awaited c i calls wire g bytes
+module _ (awaited : Awaited) (c : Course) (i : ℕ) (calls : List Call) (wire : ℤ) (q : Places) (g : GetTask) (bytes : List ℕ) where
+  opening_waits : (o : ClientFinding) (bucket : Option ClientBucket) → o.bucket ≡ bucket → AllSentIn c i 0 q.now → q.now ≡ places_of c i → IsOpeningFor g o → IsSoundFinding o → IsOpening awaited (sent_at q.now calls wire) o → IsSome (findings.finding_ticket o) → GetWaits awaited c i calls wire g (length bytes)
   opening_waits o None is sent whole aim sound h held = absurd (none_waits o.doing (sound.none is) held)
-  opening_waits o (Some b) is sent whole aim sound h held = looking_waits awaited c i calls wire q g bytes b o.id o.doing sent whole aim.id_is (aim.placed b is) held (h b is)
+  opening_waits o (Some b) is sent whole aim sound h held = looking_waits awaited c i calls wire q g (length bytes) b o.id o.doing sent whole aim.id_is (aim.placed b is) held (h b is)
 
-  pub get_caused : (s : GetStage) (given : List ℕ) (done : ℕ) (at : Option ℕ) → AllSent c i q done → GetTells awaited calls wire q g s given done at → GetStageAt s bytes done (turns_done i c.order c.notes) (pends_last i c.order c.notes) g.read → GetCaused awaited c i calls wire g bytes (get_end s)
-  get_caused gets.Unsent given done at sent t is_at = (λ pended. let bad : false ≡ true = sym is_at.3 ∙ pended in absurd cc, unopened_so c i calls wire q g done sent bytes is_at.2 t.0 is_at.1 None (record { finds = subst (λ (l : List ℕ). FallsAt (IsFindAt g None) calls 5 l 1) (sym t.1) (falls_none (IsFindAt g None) calls 5 1 (omega arith)); heard = λ f is. let bad : None ≡ Some f = is in absurd cc }))
-  get_caused (gets.Opens opening) given done at sent t is_at = (
+  pub get_caused : (s : GetStage) (done : ℕ) (at : Option ℕ) → AllSent c i q done → GetTells awaited calls wire q g s bytes done at → GetStageAt s (length bytes) done (turns_done i c.order c.notes) (pends_last i c.order c.notes) g.read → GetCaused awaited c i calls wire g bytes (get_end s)
+  get_caused gets.Unsent done at sent t is_at = (λ pended. let bad : false ≡ true = sym is_at.3 ∙ pended in absurd cc, unopened_so c i calls wire q g done sent bytes (turns_done i c.order c.notes) (SentIfPends c i) (ReadGoesOn awaited c i calls wire g) is_at.0 (none_in bytes is_at.2) t.0 is_at.1 (λ rests. t.1) None (record { finds = subst (λ (l : List ℕ). FallsAt (IsFindAt g None) calls 5 l 1) (sym t.1) (falls_none (IsFindAt g None) calls 5 1 (omega arith)); heard = λ f is. let bad : None ≡ Some f = is in absurd cc; sends = far_finds awaited calls g q.now findings.starts t.1 }))
+  get_caused (gets.Opens opening) done at sent t is_at = (
     λ pended. opening_waits (finding_of opening) (finding_of opening).bucket refl (subst (λ (n : ℕ). AllSentIn c i n q.now) is_at.1 sent.now) (alone c i calls wire q g done sent t.0) t.1 t.2 t.3 (is_at.3 ∙ pended),
-    unopened_so c i calls wire q g done sent bytes is_at.2 t.0 is_at.1 (found_in (finding_of opening).doing) (record {
+    unopened_so c i calls wire q g done sent bytes (turns_done i c.order c.notes) (SentIfPends c i) (ReadGoesOn awaited c i calls wire g) is_at.0 (none_in bytes is_at.2) t.0 is_at.1 (λ rests. t.6 (none_if (findings.finding_ticket (finding_of opening)) (pends_last i c.order c.notes) (sym is_at.3) rests)) (found_in (finding_of opening).doing) (record {
       finds = falls_below (IsFindAt g (found_in (finding_of opening).doing)) calls 5 q.now (finding_places (finding_of opening).doing) 1 (places_left (finding_of opening).doing) t.4;
       heard = opening_heard (sent_at q.now calls wire) g awaited (finding_of opening) (finding_of opening).bucket refl t.1 t.2 t.3;
+      sends = far_finds awaited calls g q.now (finding_of opening).doing t.7;
     }),
   )
-  get_caused (gets.Reads download room) given done at sent t is_at =
+  get_caused (gets.Reads download room) done at sent t is_at =
       let n = above done is_at.1 in
       let d : ClientDownload = download_of download in
-      let these : GetSent c i calls g bytes q.opened n.0 q.now = all_sent c i calls wire q g done sent bytes is_at.2 is_at.4 n.0 n.1 t.1 t.0.more in (
+      let these : GetSent c i calls g (length bytes) q.opened n.0 q.now = all_sent c i calls wire q g done sent bytes is_at.2 is_at.4 n.0 n.1 t.1 t.0.more in (
         λ pended.
             let w = doing_waits awaited (sent_at q.now calls wire) d d.doing t.3.between.sound.by t.2 t.4 (is_at.3 ∙ pended) in
             causes.for_more n.0 q.now (subst (λ (m : ℕ). AllSentIn c i m q.now) n.1 sent.now) w.0.id w.0.space w.1 d.file (get_opened c i calls wire q g done sent d.file at t.0) these,
-        causes.has_opened d.file (get_opened c i calls wire q g done sent d.file at t.0) n.0 q.now these,
+        causes.has_opened d.file (get_opened c i calls wire q g done sent d.file at t.0) n.0 (is_at.0 ∙ n.1) q.now (λ rests. t.9 (none_if (downloads.download_ticket d) (pends_last i c.order c.notes) (sym is_at.3) rests)) these t.7.last t.7.so_far (d, subst (λ (l : List ℕ). GoesOn awaited (sent_at l calls wire) (sent_at q.now calls wire) g (room_of g.read) t.7.last d d.doing) sent.whole t.7.goes),
       )
-  get_caused (gets.Ended end) given done at sent t is_at = get_end_caused c i calls wire q g done sent bytes is_at.1 is_at.3 awaited end given at is_at.0 t
+  get_caused (gets.Ended end) done at sent t is_at = get_end_caused c i calls wire q g done sent bytes is_at.1 is_at.3 awaited end at is_at.0 t

@@ -5,11 +5,10 @@ use Rattle.mg_bson.specs.Tree.{Fields}
 use Rattle.mg_server.specs.Calls.{Keeps}
 use Rattle.mg_server.specs.Commands.{asked, asks_query}
 use Rattle.mg_server.specs.Files.{Bucket, chunks_space, file_of}
-use Rattle.mg_server.specs.History.{IsLegal, Step, state_of}
+use Rattle.mg_server.specs.History.{state_of}
 use Rattle.mg_link.specs.Link.{Awaited, LogTold}
 use Rattle.mg_link.specs.Log.{Call}
 use Rattle.mg_server.specs.Query.{Query}
-use Rattle.mg_server.specs.Standing.{Stands}
 use Rattle.mg_server.proofs.Owners.{same_some}
 use Rattle.mg_cursor.specs.Client.{ClientCursor}
 use Rattle.mg_cursor.specs.Reading.{in_reply, reader_in}
@@ -21,7 +20,7 @@ use Rattle.mg_gridfs.specs.Reads.{Reads}
 use Rattle.mg_gridfs.specs.declared.polls.ReadPoll.{ReadPoll}
 use Rattle.mg_gridfs.specs.declared.polls.ReadPoll.TheVariants as read
 use Rattle.mg_gridfs.proofs.Fronts.{front_known, front_opened}
-use Rattle.mg_players.specs.Files.{AllHold, FirstHold}
+use Rattle.mg_players.specs.Files.{AllHold, FirstHold, ListsSo}
 use Rattle.mg_players.specs.Reading.{AsksFor, EndsAsListed}
 use Rattle.mg_players.proofs.GetListing.{chunks_are}
 use Rattle.mg_players.proofs.GetSending.{IsNewDownload, has_none, lists_some}
@@ -84,11 +83,6 @@ module _ (old new : Awaited) (log log' : LogTold) (wire : ℤ) (room : ℕ) (d d
       by_doing spoiled is k = absurd (fine is)
 
 -- ---- the chunks that stood
-
--- The command at this place asked for the chunks of the file; so are those that stood as it took effect, in each legal history in which the log stands.
-pub record ListsSo (calls : List Call) (b : Bucket) (file : FileRecord) (listed : ℕ) (So : List Fields → Type 0) : Type 0 where
-  pub asked_so : AsksFor calls listed (chunks_query (chunks_space b) file.id)
-  pub each : (history : List Step) → IsLegal history → Stands calls history → (position : ℕ) × (asked_so.call.position ≡ Some position) × So (file_of (state_of (take (suc position) history)) b file.id).chunks
 
 -- these documents are the first of them, or all
 record StoodAs (stood documents : List Fields) (whole : Bool) : Type 0 where

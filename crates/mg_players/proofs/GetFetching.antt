@@ -1,5 +1,5 @@
 -- How the cursor of a read stands behind its batches, and why the read fails.
-use Rattle.std.proofs.Common.{◌≡◌, ◌≢◌, ◌⊎◌, ◌<◌, ◌≤◌, ◌++◌, ◌+◌, ◌-◌, ℕ, zero, suc, ℤ, pos, Bool, true, List, [], ◌∷◌, length, take, Some, None, Ok, Err, refl, sym, ap, ◌∙◌, subst, inl, inr, arith, length-append, append_assoc}
+use Rattle.std.proofs.Common.{◌≡◌, ◌≢◌, ◌⊎◌, ◌<◌, ◌≤◌, ◌++◌, ◌+◌, ◌-◌, ℕ, zero, suc, ℤ, pos, Bool, true, List, [], ◌∷◌, length, take, Some, None, Ok, Err, refl, sym, ap, ◌∙◌, subst, inl, inr, arith, length-append, append-nil, append_assoc}
 use Rattle.std.specs.List.{concat}
 use Rattle.std.proofs.lemmas.List.Folds.{concat-append}
 use Rattle.mg_bson.specs.Raw.{fields, items}
@@ -29,7 +29,7 @@ use Rattle.mg_ops.proofs.Replying.{same_id}
 use Rattle.mg_cursor.specs.Batches.{NoBatchIn, documents_of}
 use Rattle.mg_cursor.specs.Causes.{HeardMore, IsUnderway, NextCame}
 use Rattle.mg_cursor.specs.Client as client
-use Rattle.mg_cursor.specs.Client.{ClientCursor, IsSound, get_more}
+use Rattle.mg_cursor.specs.Client.{ClientCursor, IsOver, IsSound, get_more}
 use Rattle.mg_cursor.specs.Polling.{Hears, PollsNext, ReadsReply, begins, broke, gave, goes_on, hands_out, is_over, not_built}
 use Rattle.mg_cursor.specs.Reading.{batch_documents, in_reply, reader_in, told_next}
 use Rattle.mg_cursor.specs.declared.polls.NextPoll.{NextPoll}
@@ -45,6 +45,7 @@ use Rattle.mg_records.specs.FileRecords.{FileRecord}
 use Rattle.mg_gridfs.specs.Downloaded.{AreReceived, KnowsChunks, chunks_query}
 use Rattle.mg_chunks.specs.Chunks.{all_judged}
 use Rattle.mg_gridfs.specs.Downloads.{ClientDownload, Doing, ended, idle, most_empty, reads, sizes_of, spoiled}
+use Rattle.mg_gridfs.specs.ReadCauses.{HasInOrder, TakesNext, by_reply, was_held}
 use Rattle.mg_gridfs.specs.Reads as steps
 use Rattle.mg_gridfs.specs.Reads.{EndsFetch, Fetched, Fetches, SpoilsBatch, TakesOne, enough, fails, no_more, none_missing, not_taken, over, pends, waits, with_chunks}
 use Rattle.mg_gridfs.proofs.Downloading.{next_named, next_rests, same_cursor, taken_as}
@@ -53,13 +54,13 @@ use Rattle.mg_gridfs.proofs.Received.{batch_is, received_behind, reply_documents
 use Rattle.mg_players.specs.Gets.{GetTask, chunks_find}
 use Rattle.mg_players.specs.Reading as stops
 use Rattle.mg_players.specs.InTurn.{empty_with, newest}
-use Rattle.mg_players.specs.Reading.{CountsRow, HeardEmpty, HeardHeld, ListsChunks, IsQueried, ListsOther, ReadStops, WherePrompt, empties}
-use Rattle.mg_players.proofs.GetCounting.{count_behind, count_of, counts_behind, counts_waiting, few_behind, heard_too_many, none_in_batch, took_on}
+use Rattle.mg_players.specs.Reading.{BreaksAt, CountsRow, FailsSo, HoldChunks, HeardEmpty, HeardHeld, ListsChunks, IsQueried, ListsOther, ReadStops, TakenSo, TookThese, WherePrompt, empties}
+use Rattle.mg_players.proofs.GetCounting.{count_behind, count_of, counts_behind, counts_waiting, few_behind, heard_too_many, none_in_batch, took_all, took_on}
 use Rattle.mg_players.proofs.GetDiffering.{batch_differs}
 use Rattle.mg_players.proofs.GetListing.{batch_there, differs_by, documents_same, documents_there, list_asks, list_step, more_step, told_named}
 use Rattle.mg_players.proofs.GetReading.{held_grows, listed_grow}
 use Rattle.mg_players.proofs.GetSteps.{more_over, more_same, prompt_at, query_at, query_prompt}
-use Rattle.mg_players.proofs.InTurn.{BatchFrom, NextLater, batch_from, came_later, from_hand, from_reply, near, pending_more, sends_one}
+use Rattle.mg_players.proofs.InTurn.{BatchFrom, HeardLater, NextLater, batch_from, came_later, end_came, from_hand, from_reply, near, pending_more, sends_one, turn_grows}
 use Rattle.mg_players.proofs.JustGrown.{log_just}
 
 -- ---- one poll
@@ -201,9 +202,9 @@ module _ (g : GetTask) (past : Past) (f : FileRecord) (empty : ℕ) (c : ClientC
 -- ---- all batches of a poll
 
 -- a batch is taken
-taken_so : (chunks : List (List ℕ)) (c : ClientCursor) (missing empty : ℕ) (d d' : ClientDownload) → d' ≡ with_chunks chunks c missing empty d → (m : ℕ) × (k : ℕ) × (d'.doing ≡ reads c m k) × (1 ≤ k → chunks ≡ []) × (k ≡ count_behind empty chunks)
-taken_so [] c missing empty d d' is = (missing, suc empty, ap (λ (x : ClientDownload). x.doing) is, λ some. refl, refl)
-taken_so (b ∷ bs) c missing empty d d' is = (missing - length (concat (b ∷ bs)), 0, ap (λ (x : ClientDownload). x.doing) is, λ some. absurd (omega (arith, some)), refl)
+taken_so : (chunks : List (List ℕ)) (c : ClientCursor) (missing empty : ℕ) (d d' : ClientDownload) → d' ≡ with_chunks chunks c missing empty d → (m : ℕ) × (k : ℕ) × (d'.doing ≡ reads c m k) × (1 ≤ k → chunks ≡ []) × (k ≡ count_behind empty chunks) × (m ≡ missing - length (concat chunks))
+taken_so [] c missing empty d d' is = (missing, suc empty, ap (λ (x : ClientDownload). x.doing) is, λ some. refl, refl, omega arith)
+taken_so (b ∷ bs) c missing empty d d' is = (missing - length (concat (b ∷ bs)), 0, ap (λ (x : ClientDownload). x.doing) is, λ some. absurd (omega (arith, some)), refl, refl)
 
 abbrev missing_of : Doing → ℕ
 missing_of (idle c) = 0
@@ -222,13 +223,62 @@ none_received : (f : FileRecord) (n : ℕ) (cs : List (List ℕ)) (ds : List Fie
 none_received f n cs [] is a = refl
 none_received f n cs (d ∷ ds) is a = absurd (subst (λ (l : List (List ℕ)). AreReceived f n l (d ∷ ds)) is a)
 
+-- ---- what is in hand
+
+-- so it is where nothing changes
+pub taken_still : (b d d' : ClientDownload) (all : List (List ℕ)) → d'.file ≡ d.file → d'.count ≡ d.count → d'.taken ≡ d.taken → d'.ahead ≡ d.ahead → TakenSo b d all → TakenSo b d' all
+taken_still b d d' all file count taken ahead so = record {
+  file = file ∙ so.file;
+  count = count ∙ so.count;
+  chunks_so = subst (λ (n : ℕ). HoldChunks b.file b.taken all n d'.ahead) (sym taken) (subst (HoldChunks b.file b.taken all d.taken) (sym ahead) so.chunks_so);
+}
+
+-- one more batch
+holds_on : (f : FileRecord) (n : ℕ) (all : List (List ℕ)) (next : ℕ) (held reply : List ℕ) → HoldChunks f n all next held → (h : HasInOrder f next reply) → HoldChunks f n (all ++ reply ∷ []) (next + length h.chunks) (held ++ concat h.chunks)
+holds_on f n [] next held reply so h =
+    subst (λ (m : ℕ). HoldChunks f m (reply ∷ []) (next + length h.chunks) (held ++ concat h.chunks)) so.0
+    (h, [], ap (λ (l : List ℕ). l ++ concat h.chunks) so.1 ∙ sym (append-nil (concat h.chunks)), (refl, refl))
+holds_on f n (one ∷ more) next held reply so h = (so.0, so.1 ++ concat h.chunks, ap (λ (l : List ℕ). l ++ concat h.chunks) so.2 ∙ append_assoc (concat so.0.chunks) so.1 (concat h.chunks), holds_on f (n + length so.0.chunks) more next so.1 reply so.3 h)
+
+taken_on : (b d d' : ClientDownload) (all : List (List ℕ)) (reply : List ℕ) → TakenSo b d all → (h : HasInOrder d.file d.taken reply) → d'.file ≡ d.file → d'.count ≡ d.count → d'.taken ≡ d.taken + length h.chunks → d'.ahead ≡ d.ahead ++ concat h.chunks → TakenSo b d' (all ++ reply ∷ [])
+taken_on b d d' all reply so h file count taken ahead =
+    let here : HoldChunks d.file b.taken (all ++ reply ∷ []) (d.taken + length h.chunks) (d.ahead ++ concat h.chunks) = holds_on d.file b.taken all d.taken d.ahead reply (subst (λ (f : FileRecord). HoldChunks f b.taken all d.taken d.ahead) (sym so.file) so.chunks_so) h in
+    record {
+      file = file ∙ so.file;
+      count = count ∙ so.count;
+      chunks_so = subst (λ (n : ℕ). HoldChunks b.file b.taken (all ++ reply ∷ []) n d'.ahead) (sym taken) (subst (HoldChunks b.file b.taken (all ++ reply ∷ []) (d.taken + length h.chunks)) (sym ahead) (subst (λ (f : FileRecord). HoldChunks f b.taken (all ++ reply ∷ []) (d.taken + length h.chunks) (d.ahead ++ concat h.chunks)) so.file here));
+    }
+
+less_by : (x y m size held n now : ℕ) → x ≡ y - n → y ≡ m → m ≡ size - held → now ≡ held + n → x ≡ size - now
+less_by x y m size held n now a b c d = omega (arith, a, b, c, d)
+
+-- none is missing
+no_less : (m held now size : ℕ) → m ≡ 0 → m ≡ size - held → now ≡ held → size ≤ now
+no_less m held now size none is same = omega (arith, none, is, same)
+
+-- some are missing
+still_short : (x m size held : ℕ) → 0 < x → x ≡ m → m ≡ size - held → held < size
+still_short x m size held short same is = omega (arith, short, same, is)
+
+-- a batch that came is the next
+heard_in : (past : Past) (c : ClientCursor) (bytes : List ℕ) (most : ℕ) → (c.doing ≡ client.holds bytes) ⊎ HeardLater past c bytes most → (c.doing ≡ client.holds bytes) ⊎ HeardMore past c bytes
+heard_in past c bytes most (inl at) = inl at
+heard_in past c bytes most (inr later) = inr later.more
+
+next_of : (past : Past) (c behind : ClientCursor) (bytes : List ℕ) → BatchFrom c behind bytes → (c.doing ≡ client.holds bytes) ⊎ HeardMore past c bytes → TakesNext past c bytes behind
+next_of past c behind bytes (from_hand at is) heard = was_held at is
+next_of past c behind bytes (from_reply none may said says is) (inl at) = absurd (let bad : None ≡ Some bytes = sym none ∙ ap client.reply_in at in cc)
+next_of past c behind bytes (from_reply none may said says is) (inr h) = by_reply said h says is
+
 -- The get sent at the places P, and its call, which began with a cursor, at the places N.
-module _ (g : GetTask) (P : List ℕ) (L : ℕ) (wire : ℤ) (bytes : List ℕ) (place listed : ℕ) (N : List ℕ) (begun : ClientCursor) where
+module _ (g : GetTask) (P : List ℕ) (L : ℕ) (wire : ℤ) (bytes : List ℕ) (place listed : ℕ) (N : List ℕ) (begun : ClientCursor) (start : ClientDownload) (size : ℕ) where
   -- what has come of it
   abbrev pub FetchStops : Awaited → List Call → ClientDownload → ClientDownload → Fetched → Type 0
-  FetchStops new calls d d' waits = (c : ClientCursor) × (m : ℕ) × (k : ℕ) × (d'.doing ≡ reads c m k) × ListsChunks (past_of P L calls wire) g d.file k c × HeardHeld (past_of P L calls wire) g d.file begun × CountsRow new (past_of N L calls wire) begun c k
+  FetchStops new calls d d' waits = (c : ClientCursor) × (m : ℕ) × (k : ℕ) × (d'.doing ≡ reads c m k) × ListsChunks (past_of P L calls wire) g d.file k c × HeardHeld (past_of P L calls wire) g d.file begun
+      × (all : List (List ℕ)) × CountsRow new (past_of N L calls wire) begun c k all × TakenSo start d' all × (m ≡ size - length d'.ahead)
   FetchStops new calls d d' enough = (c : ClientCursor) × (d'.doing ≡ idle c) × ListsChunks (past_of P L calls wire) g d.file 0 c
-  FetchStops new calls d d' (fails e) = ReadStops (past_of P L calls wire) (HeardEmpty (past_of P L calls wire) (past_of N L calls wire) g d.file) (ListsOther calls g.at d.file listed e) e
+      × (all : List (List ℕ)) × TookThese (past_of N L calls wire) begun c all × TakenSo start d' all × ((size ≤ length d'.ahead) ⊎ IsOver c)
+  FetchStops new calls d d' (fails e) = ReadStops (past_of P L calls wire) (HeardEmpty (past_of P L calls wire) (past_of N L calls wire) g d.file start) (ListsOther calls g.at d.file listed e) e × FailsSo (past_of N L calls wire) size start e
 
   pub record FetchStopped (log' : LogTold) (new : Awaited) (d d' : ClientDownload) (f : Fetched) : Type 0 where
     pub calls' : List Call
@@ -248,7 +298,12 @@ module _ (g : GetTask) (P : List ℕ) (L : ℕ) (wire : ℤ) (bytes : List ℕ) 
     pub counted : chunk_count_of d.file.length d.file.chunk_size ≡ Ok d.count
     pub under_call : IsUnderway old (past_of N L calls wire) c
     pub held : HeardHeld (past_of P L calls wire) g d.file begun
-    pub counts : CountsRow old (past_of N L calls wire) begun c k
+    pub idle_so : start.doing ≡ idle begun
+    pub none_ahead : start.ahead ≡ []
+    pub all : List (List ℕ)
+    pub counts : CountsRow old (past_of N L calls wire) begun c k all
+    pub taken_so : TakenSo start d all
+    pub missing_is : m ≡ size - length d.ahead
 
   module _ (old new : Awaited) (log log' : LogTold) (calls : List Call) (d d' : ClientDownload) (c : ClientCursor) (m k : ℕ) (s : StandsAt old log calls d c m k) where
     -- the log behind a poll, and what is known and was heard there
@@ -318,38 +373,46 @@ module _ (g : GetTask) (P : List ℕ) (L : ℕ) (wire : ℤ) (bytes : List ℕ) 
           let b = legal_batch history legal stands in
           batch_differs d.file d.count s.know.chunks s.know.reader.given (batch_documents reply) ([] ++ in_reply behind.doing) left s.know.received batch (documents_there reply b.0 batch b.1 at) e (ap (λ (n : ℕ). all_judged (sizes_of d.file) n batch) (sym s.know.taken) ∙ bad))
 
-      many_so : BatchFrom c behind reply → batch_at (fields reply) ≡ Ok no_items → most_empty ≤ suc k → HeardEmpty (past_of P L p.calls' wire) (past_of N L p.calls' wire) g d.file
+      many_so : BatchFrom c behind reply → batch_at (fields reply) ≡ Ok no_items → most_empty ≤ suc k → HeardEmpty (past_of P L p.calls' wire) (past_of N L p.calls' wire) g d.file start
       many_so (from_hand at is) none many = let first = (p.lists.held reply at).0 in absurd (omega (arith, many, first))
       many_so (from_reply none_in may said says is) none many =
-          heard_too_many (past_of P L p.calls' wire) (past_of N L p.calls' wire) g d.file begun behind k reply p.held
-          (took_on old (past_of N L calls wire) (past_of N L p.calls' wire) (log_just N L calls p.calls' wire p.keeps) begun c behind k reply s.counts (from_reply none_in may said says is) p.later.0 p.later.1) (none_in_batch reply said says none) s.counts.few many
+          heard_too_many (past_of P L p.calls' wire) (past_of N L p.calls' wire) g d.file start begun behind k (s.all ++ reply ∷ []) reply s.idle_so p.held
+          (took_on old (past_of N L calls wire) (past_of N L p.calls' wire) (log_just N L calls p.calls' wire p.keeps) begun c behind k s.all reply s.counts (from_reply none_in may said says is) p.later.0 p.later.1) (none_in_batch reply said says none) s.counts.few many
 
-      stops_so : (e : Error) → BatchFrom c behind reply → (e ≡ plain kind.OutOfMemory) ⊎ SpoilsBatch k reply d e → ReadStops (past_of P L p.calls' wire) (HeardEmpty (past_of P L p.calls' wire) (past_of N L p.calls' wire) g d.file) (ListsOther p.calls' g.at d.file listed e) e
+      stops_so : (e : Error) → BatchFrom c behind reply → (e ≡ plain kind.OutOfMemory) ⊎ SpoilsBatch k reply d e → ReadStops (past_of P L p.calls' wire) (HeardEmpty (past_of P L p.calls' wire) (past_of N L p.calls' wire) g d.file start) (ListsOther p.calls' g.at d.file listed e) e
       stops_so e from (inl memory) = stops.no_memory (ap (λ (x : Error). x.kind) memory)
       stops_so e from (inr (steps.no_batch none)) = stops.differs (none_there e none)
       stops_so e from (inr (steps.differs batch at bad)) = stops.differs (one_there e batch at bad)
       stops_so e from (inr (steps.too_many none many is)) = stops.too_many (many_so from none many) (never_many g (past_of P L p.calls' wire) d.file k c p.lists reply (batch_source c behind reply from) many) is
+
+    -- it came so far, and failed there
+    fails_at : (calls' : List Call) → Keeps calls calls' → (e : Error) → BreaksAt (past_of N L calls' wire) size d c e → FailsSo (past_of N L calls' wire) size start e
+    fails_at calls' keeps e breaks = record {
+      left = d;
+      cursor = c;
+      came = stops.by_batches begun s.all s.counts.replies s.idle_so s.none_ahead (turn_grows (past_of N L calls wire) (past_of N L calls' wire) (log_just N L calls calls' wire keeps) begun 0 s.counts.replies (client.at_rest c) s.counts.heard) s.counts.all_so s.taken_so;
+      breaks = breaks;
+    }
+
+    -- as many bytes are in hand as it has room for, or the cursor has ended
+    enough_at : (f : Fetched) → log' ≡ Some calls → d'.doing ≡ idle c → c.doing ≡ client.rests → TakenSo start d' s.all → (size ≤ length d'.ahead) ⊎ IsOver c → f ≡ enough → FetchStopped log' new d d' f
+    enough_at f told at rests so full answer = record {
+      calls' = calls;
+      told = told;
+      after = subst (FetchStops new calls d d') (sym answer) (c, at, listed_first g (past_of P L calls wire) d k c rests s.lists, s.all, took_all old (past_of N L calls wire) begun c k s.all s.counts rests, so, full);
+    }
 
     -- what ends the taking
     ends_stopped : (f : Fetched) → EndsFetch old new log log' wire d d' f → FetchStopped log' new d d' f
     ends_stopped f (none_missing x empty there quiet is answer) =
         let same = same_cursor x c 0 m empty k (sym there ∙ s.doing) in
         let none : m ≡ 0 = sym (same_missing x c 0 m empty k (sym there ∙ s.doing)) in
-        record {
-          calls' = calls;
-          told = quiet.log_same ∙ s.told;
-          after = subst (FetchStops new calls d d') (sym answer) (c, ap (λ (y : ClientDownload). y.doing) is ∙ ap (λ (y : ClientCursor). idle y) same, listed_first g (past_of P L calls wire) d k c (s.rests_so none) s.lists);
-        }
+        let missing = s.missing_is in
+        let long = ap (λ (y : ClientDownload). length y.ahead) is in
+        enough_at f (quiet.log_same ∙ s.told) (ap (λ (y : ClientDownload). y.doing) is ∙ ap (λ (y : ClientCursor). idle y) same) (s.rests_so none) (taken_still start d d' s.all (ap (λ (y : ClientDownload). y.file) is) (ap (λ (y : ClientDownload). y.count) is) (ap (λ (y : ClientDownload). y.taken) is) (ap (λ (y : ClientDownload). y.ahead) is) s.taken_so) (inl (no_less m (length d.ahead) (length d'.ahead) size none missing long)) answer
     ends_stopped f (over x m' k' there short started behind polls is answer) =
-        let here = at_c started x behind next.End m' k' there polls in
-        let p = polled started behind next.End here in
-        let rests = next_rests old new log log' wire started c behind next.End tt here in
-        record {
-          calls' = p.calls';
-          told = p.told;
-          after = subst (FetchStops new p.calls' d d') (sym answer)
-              (behind, ap (λ (y : ClientDownload). y.doing) is, listed_first g (past_of P L p.calls' wire) d k behind rests (quiet_listed g (past_of P L p.calls' wire) d k c behind (quietly old new log log' wire started c behind next.End tt here) p.lists));
-        }
+        let e = end_came old new log log' wire started c behind (at_c started x behind next.End m' k' there polls) in
+        enough_at f (e.quiet.log_same ∙ s.told) (ap (λ (y : ClientDownload). y.doing) is ∙ ap (λ (y : ClientCursor). idle y) e.same) e.rested (taken_still start d d' s.all (ap (λ (y : ClientDownload). y.file) is) (ap (λ (y : ClientDownload). y.count) is) (ap (λ (y : ClientDownload). y.taken) is) (ap (λ (y : ClientDownload). y.ahead) is) s.taken_so) (inr e.over) answer
     ends_stopped f (pends x m' k' there short started behind polls is answer) =
         let here = at_c started x behind next.Pending m' k' there polls in
         let p = polled started behind next.Pending here in
@@ -364,20 +427,33 @@ module _ (g : GetTask) (P : List ℕ) (L : ℕ) (wire : ℤ) (bytes : List ℕ) 
             ap (λ (y : ClientDownload). y.doing) is,
             subst (λ (n : ℕ). ListsChunks (past_of P L p.calls' wire) g d.file n behind) (sym same) (quiet_listed g (past_of P L p.calls' wire) d k c behind (quietly old new log log' wire started c behind next.Pending tt here) p.lists),
             p.held,
-            subst (λ (n : ℕ). CountsRow new (past_of N L p.calls' wire) begun behind n) (sym same) (counts_waiting old new (past_of N L calls wire) (past_of N L p.calls' wire) (log_just N L calls p.calls' wire p.keeps) begun c behind k s.counts (pending_more old new log log' wire started c behind here) p.later),
+            s.all,
+            subst (λ (n : ℕ). CountsRow new (past_of N L p.calls' wire) begun behind n s.all) (sym same) (counts_waiting old new (past_of N L calls wire) (past_of N L p.calls' wire) (log_just N L calls p.calls' wire p.keeps) begun c behind k s.all s.counts (pending_more old new log log' wire started c behind here) p.later),
+            taken_still start d d' s.all (ap (λ (y : ClientDownload). y.file) is) (ap (λ (y : ClientDownload). y.count) is) (ap (λ (y : ClientDownload). y.taken) is) (ap (λ (y : ClientDownload). y.ahead) is) s.taken_so,
+            same_missing x c m' m k' k (sym there ∙ s.doing) ∙ s.missing_is ∙ sym (ap (λ (y : ClientDownload). size - length y.ahead) is),
           );
         }
     ends_stopped f (no_more x m' k' there short started behind e polls is answer) =
         let p = polled started behind (next.Failed e) (at_c started x behind (next.Failed e) m' k' there polls) in
-        record { calls' = p.calls'; told = p.told; after = subst (FetchStops new p.calls' d d') (sym answer) (why_none p) }
+        let row = same_missing x c m' m k' k (sym there ∙ s.doing) in
+        record { calls' = p.calls'; told = p.told; after = subst (FetchStops new p.calls' d d') (sym answer) (why_none p, fails_at p.calls' p.keeps e (breaks_none p (still_short m' m size (length d.ahead) short row s.missing_is))) }
       where
-        why_none : (p : PolledTo behind (next.Failed e)) → ReadStops (past_of P L p.calls' wire) (HeardEmpty (past_of P L p.calls' wire) (past_of N L p.calls' wire) g d.file) (ListsOther p.calls' g.at d.file listed e) e
+        why_none : (p : PolledTo behind (next.Failed e)) → ReadStops (past_of P L p.calls' wire) (HeardEmpty (past_of P L p.calls' wire) (past_of N L p.calls' wire) g d.file start) (ListsOther p.calls' g.at d.file listed e) e
         why_none p = elim p.came [
           | inl cannot ↦ elim cannot [
             | inl memory ↦ stops.no_memory (ap (λ (y : Error). y.kind) memory)
             | inr by ↦ stops.not_built c p.lists.told by
           ]
           | inr fails_so ↦ stops.no_batch c p.lists.told fails_so
+        ]
+
+        breaks_none : (p : PolledTo behind (next.Failed e)) → length d.ahead < size → BreaksAt (past_of N L p.calls' wire) size d c e
+        breaks_none p less = elim p.later [
+          | inl cannot ↦ elim cannot [
+            | inl memory ↦ stops.memory_out (ap (λ (y : Error). y.kind) memory)
+            | inr by ↦ stops.none_built less by
+          ]
+          | inr fails_so ↦ stops.none_brought less fails_so
         ]
     ends_stopped f (not_taken x m' k' there short started behind reply e polls why is answer) =
         let here = at_c started x behind (next.Batch reply) m' k' there polls in
@@ -386,9 +462,17 @@ module _ (g : GetTask) (P : List ℕ) (L : ℕ) (wire : ℤ) (bytes : List ℕ) 
         record {
           calls' = p.calls';
           told = p.told;
-          after = subst (FetchStops new p.calls' d d') (sym answer)
-              (stops_so behind reply p e (batch_from old new log log' wire started c behind reply s.sound here) (subst (λ (n : ℕ). (e ≡ plain kind.OutOfMemory) ⊎ SpoilsBatch n reply d e) same why));
+          after = subst (FetchStops new p.calls' d d') (sym answer) (
+            stops_so behind reply p e (batch_from old new log log' wire started c behind reply s.sound here) (subst (λ (n : ℕ). (e ≡ plain kind.OutOfMemory) ⊎ SpoilsBatch n reply d e) same why),
+            fails_at p.calls' p.keeps e (breaks_so p (still_short m' m size (length d.ahead) short (same_missing x c m' m k' k (sym there ∙ s.doing)) s.missing_is) (batch_from old new log log' wire started c behind reply s.sound here)),
+          );
         }
+      where
+        breaks_so : (p : PolledTo behind (next.Batch reply)) → length d.ahead < size → BatchFrom c behind reply → BreaksAt (past_of N L p.calls' wire) size d c e
+        breaks_so p less from = elim why [
+          | inl memory ↦ stops.memory_out (ap (λ (y : Error). y.kind) memory)
+          | inr spoils ↦ stops.not_taken less reply behind (next_of (past_of N L p.calls' wire) c behind reply from (heard_in (past_of N L p.calls' wire) c reply (newest 0 s.counts.replies) p.later.1)) k' spoils
+        ]
 
     -- one more batch is taken
     record TakenTo (d1 : ClientDownload) : Type 0 where
@@ -418,7 +502,8 @@ module _ (g : GetTask) (P : List ℕ) (L : ℕ) (wire : ℤ) (bytes : List ℕ) 
         let rests = next_rests old new log log' wire one.started c one.behind (next.Batch one.reply) tt polls in
         let call : Past = past_of N L p.calls' wire in
         let same = same_empty one.cursor c one.missing m one.empty k (sym one.at ∙ s.doing) in
-        let took = took_on old (past_of N L calls wire) call (log_just N L calls p.calls' wire p.keeps) begun c one.behind k one.reply s.counts (batch_from old new log log' wire one.started c one.behind one.reply s.sound polls) p.later.0 p.later.1 in
+        let row_missing = same_missing one.cursor c one.missing m one.empty k (sym one.at ∙ s.doing) in
+        let took = took_on old (past_of N L calls wire) call (log_just N L calls p.calls' wire p.keeps) begun c one.behind k s.all one.reply s.counts (batch_from old new log log' wire one.started c one.behind one.reply s.sound polls) p.later.0 p.later.1 in
         let in_row : so.1 ≡ empty_with k (documents_of one.reply)
         = so.4 ∙ ap (λ (n : ℕ). count_behind n t.chunks) same ∙ count_of d.file d.taken k t.chunks b.documents one.reply t.array t.is_array t.bytes_are b.these b.received in
         record {
@@ -454,14 +539,19 @@ module _ (g : GetTask) (P : List ℕ) (L : ℕ) (wire : ℤ) (bytes : List ℕ) 
             counted = subst (λ (f : FileRecord). chunk_count_of f.length f.chunk_size ≡ Ok d1.count) (sym gets.file) (s.counted ∙ ap (λ (n : ℕ). Ok n) (sym gets.count));
             under_call = underway_rest new call one.behind rests;
             held = subst (λ (f : FileRecord). HeardHeld past g f begun) (sym gets.file) p.held;
-            counts = counts_behind new call begun one.behind so.1 (empty_with k (documents_of one.reply)) took rests in_row (subst (λ (n : ℕ). n < most_empty) (sym so.4) (few_behind one.empty t.chunks t.few));
+            idle_so = s.idle_so;
+            none_ahead = s.none_ahead;
+            all = s.all ++ one.reply ∷ [];
+            taken_so = taken_on start d d1 s.all one.reply s.taken_so (record { array = t.array; is_array = t.is_array; bytes_are = t.bytes_are; chunks = t.chunks; in_order = t.in_order }) gets.file gets.count gets.taken gets.ahead;
+            missing_is = less_by so.0 one.missing m size (length d.ahead) (length (concat t.chunks)) (length d1.ahead) so.5 row_missing s.missing_is (ap (λ (l : List ℕ). length l) gets.ahead ∙ length-append d.ahead (concat t.chunks));
+            counts = counts_behind new call begun one.behind so.1 (empty_with k (documents_of one.reply)) (s.all ++ one.reply ∷ []) took rests in_row (subst (λ (n : ℕ). n < most_empty) (sym so.4) (few_behind one.empty t.chunks t.few));
           };
         }
 
   fetch_file : (new : Awaited) (calls : List Call) (d d1 d' : ClientDownload) (f : Fetched) → d1.file ≡ d.file → FetchStops new calls d1 d' f → FetchStops new calls d d' f
-  fetch_file new calls d d1 d' waits same h = (h.0, h.1, h.2, h.3, subst (λ (f : FileRecord). ListsChunks (past_of P L calls wire) g f h.2 h.0) same h.4, subst (λ (f : FileRecord). HeardHeld (past_of P L calls wire) g f begun) same h.5, h.6)
-  fetch_file new calls d d1 d' enough same h = (h.0, h.1, subst (λ (f : FileRecord). ListsChunks (past_of P L calls wire) g f 0 h.0) same h.2)
-  fetch_file new calls d d1 d' (fails e) same h = subst (λ (f : FileRecord). ReadStops (past_of P L calls wire) (HeardEmpty (past_of P L calls wire) (past_of N L calls wire) g f) (ListsOther calls g.at f listed e) e) same h
+  fetch_file new calls d d1 d' waits same h = (h.0, h.1, h.2, h.3, subst (λ (f : FileRecord). ListsChunks (past_of P L calls wire) g f h.2 h.0) same h.4, subst (λ (f : FileRecord). HeardHeld (past_of P L calls wire) g f begun) same h.5, h.6, h.7, h.8, h.9)
+  fetch_file new calls d d1 d' enough same h = (h.0, h.1, subst (λ (f : FileRecord). ListsChunks (past_of P L calls wire) g f 0 h.0) same h.2, h.3, h.4, h.5, h.6)
+  fetch_file new calls d d1 d' (fails e) same h = (subst (λ (f : FileRecord). ReadStops (past_of P L calls wire) (HeardEmpty (past_of P L calls wire) (past_of N L calls wire) g f start) (ListsOther calls g.at f listed e) e) same h.0, h.1)
 
   pub fetches_stopped : (n : ℕ) (old new : Awaited) (log log' : LogTold) (calls : List Call) (d d' : ClientDownload) (c : ClientCursor) (m k : ℕ) (f : Fetched) → StandsAt old log calls d c m k → Fetches n old new log log' wire d d' f → FetchStopped log' new d d' f
   unfolding Fetches

@@ -1,6 +1,7 @@
 -- Why a read of a get fails goes on to hold in a later log, and so does how its cursor stands.
 use Rattle.std.proofs.Common.{◌≡◌, ◌≤◌, ◌++◌, ℕ, suc, ℤ, pos, List, length, take, refl, sym, ap, ◌∙◌, subst, inl, inr, arith}
 use Rattle.std.proofs.lemmas.List.{take-append-le}
+use Rattle.mg_bson.specs.Tree.{Fields}
 use Rattle.mg_server.specs.Calls.{Grows, Past, past_of}
 use Rattle.mg_server.specs.Commands.{asked}
 use Rattle.mg_server.specs.Files.{Bucket, file_of}
@@ -17,6 +18,7 @@ use Rattle.mg_cursor.specs.Client.{ClientCursor}
 use Rattle.mg_cursor.proofs.SeekCaused.{fails_grow}
 use Rattle.mg_records.specs.FileRecords.{FileRecord}
 use Rattle.mg_gridfs.specs.Downloads.{ClientDownload}
+use Rattle.mg_players.specs.Files.{ListsSo}
 use Rattle.mg_players.specs.Gets.{GetTask, chunks_find}
 use Rattle.mg_players.specs.Reading.{Differ, HeardHeld, IsListOf, ListsChunks, IsQueried, IsTold, ListsIts, ListsOther, ReadStops, WherePrompt, differs, empties, no_batch, no_memory, not_built, too_many}
 use Rattle.mg_players.proofs.Queried.{queried_later}
@@ -57,6 +59,23 @@ other_grows calls calls' at f listed e onward o =
           (d.0, kept.3 ∙ d.1, subst (λ (t : State). Differ f o.count (file_of t at f.id).chunks e) (sym same) d.2);
     }
 
+-- so it is of those that are as the list says
+pub so_grows : (calls calls' : List Call) (at : Bucket) (f : FileRecord) (listed : ℕ) (So : List Fields → Type 0) → Onward calls calls' nobody → ListsSo calls at f listed So → ListsSo calls' at f listed So
+so_grows calls calls' at f listed So onward o =
+    let a = o.asked_so in
+    let kept = onward.grown.keeps listed a.call a.there in
+    record {
+      asked_so = record { call = kept.0; there = kept.1; asks = ap asked kept.2 ∙ a.asks };
+      each = λ history legal stands.
+          let x = onward.earlier history legal stands in
+          let d = o.each x.before x.legal x.stands in
+          let step = x.stands.same listed a.call d.0 a.there d.1 in
+          let within = get_within x.before d.0 step.0 step.1 in
+          let same : state_of (take (suc d.0) history) ≡ state_of (take (suc d.0) x.before)
+          = ap (λ (h : List Step). state_of (take (suc d.0) h)) x.whole ∙ state_front x.before x.tail (suc d.0) (omega (arith, within)) in
+          (d.0, kept.3 ∙ d.1, subst (λ (t : State). So (file_of t at f.id).chunks) (sym same) d.2);
+    }
+
 -- ---- steps that were answered at once
 
 pub where_prompt_grow : (past past' : Past) (So : Type 0) → Grows past past' → Onward past.calls past'.calls nobody → WherePrompt past So → WherePrompt past' So
@@ -75,7 +94,7 @@ module _ (past past' : Past) (grows : Grows past past') where
   pub held_grows : (g : GetTask) (f : FileRecord) (c : ClientCursor) → HeardHeld past g f c → HeardHeld past' g f c
   held_grows g f c h bytes is = heard_reply past past' grows (chunks_find g f.id) bytes (h bytes is)
 
-  list_grow : (g : GetTask) (f : FileRecord) (c : ClientCursor) (bytes : List ℕ) → IsListOf past g f c bytes → IsListOf past' g f c bytes
+  pub list_grow : (g : GetTask) (f : FileRecord) (c : ClientCursor) (bytes : List ℕ) → IsListOf past g f c bytes → IsListOf past' g f c bytes
   list_grow g f c bytes l = record { heard = heard_reply past past' grows (chunks_find g f.id) bytes l.heard; success = l.success; said = l.said; says = l.says; id_is = l.id_is }
 
   module _ (onward : Onward past.calls past'.calls nobody) where

@@ -18,7 +18,7 @@ use Rattle.mg_ops.specs.Cursors.{Cursor, cursor_of}
 use Rattle.mg_ops.specs.Failing.{FailsBy}
 use Rattle.mg_cursor.specs.Batches.{documents_of}
 use Rattle.mg_cursor.specs.Causes.{HeardMore, IsUnderway, MoreFails, NextCame, UnderwayBy}
-use Rattle.mg_cursor.specs.Client.{ClientCursor, Doing, IsAsking, IsSound, MayAsk, SoundBy, asks, at_rest, behind_reply, get_more, holds, reply_in, rests, ticket_by}
+use Rattle.mg_cursor.specs.Client.{ClientCursor, Doing, IsAsking, IsOver, IsSound, MayAsk, SoundBy, asks, at_rest, behind_reply, get_more, holds, reply_in, rests, ticket_by}
 use Rattle.mg_cursor.specs.Polling as polling
 use Rattle.mg_cursor.specs.Polling.{CannotAsk, Hears, PollsNext, RunsMore, begins, goes_on, hands_out, is_over, not_built}
 use Rattle.mg_cursor.specs.declared.polls.NextPoll.{NextPoll}
@@ -88,6 +88,26 @@ pending_more old new log log' wire started c c' (is_over at over none same is an
 pending_more old new log log' wire started c c' (not_built at may e fails none same is answer) = absurd cc
 pending_more old new log log' wire started c c' (begins at may sending new_one runs) = let w = waits_by c c' runs.came runs.hears in (w.0, w.1, ap reply_in at)
 pending_more old new log log' wire started c c' (goes_on sent at runs) = let w = waits_by c c' runs.came runs.hears in (w.0, w.1, ap reply_in at)
+
+-- a cursor that has ended sends nothing, and stays
+none_ends : (c c' : ClientCursor) (s : Step Sending (List ℕ)) → Hears c s c' next.End → ⊥
+none_ends c c' (came.Pending sending) h = let bad = h.1 in cc
+none_ends c c' (came.Done bytes) (polling.gave said says is answer) = cc
+none_ends c c' (came.Done bytes) (polling.broke e fails is answer) = cc
+none_ends c c' (came.Failed e) h = let bad = h.1 in cc
+
+pub record HasEnded (old new : Awaited) (log log' : LogTold) (c c' : ClientCursor) : Type 0 where
+  pub rested : c.doing ≡ rests
+  pub over : IsOver c
+  pub quiet : SendsNothing old new log log'
+  pub same : c' ≡ c
+
+pub end_came : (old new : Awaited) (log log' : LogTold) (wire : ℤ) (started : Bool) (c c' : ClientCursor) → PollsNext old new log log' wire None started c c' next.End → HasEnded old new log log' c c'
+end_came old new log log' wire started c c' (hands_out bytes at none same is answer) = absurd cc
+end_came old new log log' wire started c c' (is_over at over none same is answer) = record { rested = at; over = over; quiet = none; same = is }
+end_came old new log log' wire started c c' (not_built at may e fails none same is answer) = absurd cc
+end_came old new log log' wire started c c' (begins at may sending new_one runs) = absurd (none_ends c c' runs.came runs.hears)
+end_came old new log log' wire started c c' (goes_on sending at runs) = absurd (none_ends c c' runs.came runs.hears)
 
 -- where a batch came from: the reply in hand, or the one to its getMore
 pub data BatchFrom (c c' : ClientCursor) (bytes : List ℕ) : Type 0 where

@@ -3,11 +3,14 @@ pub mod Turning
 pub mod Watched
 pub mod GetKnowing
 pub mod GetTelling
+pub mod GetGiving
 pub mod GetGoing
 pub mod GetOpening
 pub mod GetSending
 pub mod GetCausing
 pub mod GetAsking
+pub mod GetFinds
+pub mod GetRepeating
 pub mod GetAdding
 pub mod GetNewest
 pub mod GetMores
@@ -63,6 +66,7 @@ pub mod PutSupplied
 pub mod PutChunks
 pub mod PutCommands
 pub mod PutChecks
+pub mod PutAgain
 pub mod PutHeard
 pub mod PutGrowing
 pub mod PutNext
@@ -88,3 +92,4 @@ pub mod Sends
 pub mod Continuing
 pub mod Later
 pub mod Lasting
+pub mod Losing

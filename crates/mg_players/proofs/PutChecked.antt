@@ -36,9 +36,10 @@ use Rattle.mg_gridfs.specs.declared.indexes.Place.{Place}
 use Rattle.mg_gridfs.specs.declared.indexes.Place.TheVariants as place
 use Rattle.mg_players.specs.PutFailures as fails
 use Rattle.mg_players.specs.PutFailures.{AllOther, CheckReads, ComesNext, HasFound, HasKeys, HeardCreation, HeardIndexes, HeardNone, HeardWhole, IsListedIndex, PutCheckFails, ReadsList, brought, creates_it, documents_held, batch_documents}
-use Rattle.mg_players.specs.PutChecks.{IsGetMore}
+use Rattle.mg_players.specs.PutChecks.{IsGetMore, OnlyAgain}
 use Rattle.mg_players.proofs.NewestHeard.{HeardNewest}
-use Rattle.mg_players.proofs.PutChecks.{AdvanceHeard, AnyHeard, CreatedHeard, CreationHeard, EndHeard, FindHeard, IndexHeard, IndexedHeard, StepHeard}
+use Rattle.mg_players.proofs.PutChecks.{AdvanceHeard, AnyHeard, CreatedHeard, CreationHeard, EndHeard, FindHeard, IndexHeard, IndexedHeard, StepHeard, ran_count}
+use Rattle.mg_players.proofs.PutAgain.{again_sent}
 use Rattle.mg_players.proofs.JustGrown.{GrowsBehind, log_behind}
 use Rattle.mg_players.proofs.PutChecking.{AddsTold}
 use Rattle.mg_players.proofs.PutCreated.{CameBehind, created_by, creation_grows, first_asked, listing_ran, there_by}
@@ -292,6 +293,10 @@ module _ (old new : Awaited) (log log' : LogTold) (wire : ℤ) (b : ClientBucket
   ran_by : (again : Bool) (lines : List Line) (s : Sending) (c : Step Sending (List ℕ)) → IsRequest again lines s → Runs old new log log' wire s c → Flies old (past_of places since calls wire) (fields_in lines) s.stage → RequestRan new places since calls log' wire (fields_in lines) again c
   ran_by again lines s c own runs flies = request_ran old new log log' wire s (fields_in lines) again c own.command_is own.retries_is runs calls told places since room flies
 
+  -- it is sent once more behind a first attempt that was lost or refused so
+  again_by : (lines : List Line) (s : Sending) (c : Step Sending (List ℕ)) → IsRequest true lines s → (runs : Runs old new log log' wire s c) → Flies old (past_of places since calls wire) (fields_in lines) s.stage → (calls' : List Call) → log' ≡ Some calls' → OnlyAgain (past_of places since calls' wire) (fields_in lines) (ran_count true old new log log' wire s c runs)
+  again_by lines s c own runs flies calls' told' = again_sent old new log log' wire s c (fields_in lines) own.command_is runs calls told places since room flies calls' told'
+
   -- a reply that a request gave is a success
   well_ran : (s : Sending) (c : Step Sending (List ℕ)) → Runs old new log log' wire s c → (bytes : List ℕ) → c ≡ came.Done bytes → IsSuccess bytes
   well_ran s c runs bytes is = success_ran old new log log' wire s bytes (subst (Runs old new log log' wire s) is runs)
@@ -312,13 +317,13 @@ module _ (old new : Awaited) (log log' : LogTold) (wire : ℤ) (b : ClientBucket
   pub check_reads : (c : ClientCheck) (t : CheckTurned) → IsSoundCheck b c → (o : ChecksOn old new log log' wire b c t) → CheckUnderway old (past_of places since calls wire) b c → CheckReads old (past_of places since calls wire) b c → Grew places since calls log' wire (λ past. TurnReads new past b t × StepHeard past b t o)
   check_reads c t sound (check.by_find s is came_so runs hears) h l =
       let ran = ran_by true (any_lines b) s came_so (own_at c (finds s) is sound) runs (under_at c (finds s) is h) in
-      (ran.calls', ran.told, ran.grows.keeps, (find_so new (past_of places since ran.calls' wire) b old new log log' wire s came_so t runs hears ran.came, find_heard (past_of places since ran.calls' wire) b new came_so t (well_ran s came_so runs) ran.came hears))
+      (ran.calls', ran.told, ran.grows.keeps, (find_so new (past_of places since ran.calls' wire) b old new log log' wire s came_so t runs hears ran.came, (find_heard (past_of places since ran.calls' wire) b new came_so t (well_ran s came_so runs) ran.came hears, again_by (any_lines b) s came_so (own_at c (finds s) is sound) runs (under_at c (finds s) is h) ran.calls' ran.told)))
   check_reads c t sound (check.by_creation at s is came_so runs hears) h l =
       let ran = ran_by false (creation_lines b at) s came_so (own_at c (creates at s) is sound) runs (under_at c (creates at s) is h) in
       (ran.calls', ran.told, ran.grows.keeps, (creates_so new (past_of places since ran.calls' wire) b old new log log' wire s at came_so t runs hears ran.came, creation_heard (past_of places since ran.calls' wire) b new at came_so t (well_ran s came_so runs) ran.came hears))
   check_reads c t sound (check.by_listing at s is came_so runs hears) h l =
       let x = listing_ran old new log log' wire b at s came_so (own_at c (lists at s) is sound) runs calls told places since room (subst (CheckReads old (past_of places since calls wire) b) is l) in
-      (x.0, x.1, x.2, (lists_so new (past_of places since x.0 wire) b old new log log' wire s at came_so t runs hears x.3, tt))
+      (x.0, x.1, x.2, (lists_so new (past_of places since x.0 wire) b old new log log' wire s at came_so t runs hears x.3, again_by (listing_lines b at) s came_so (own_at c (lists at s) is sound) runs (under_at c (lists at s) is h) x.0 x.1))
   check_reads c t sound (check.by_advance at d found count is empties starts left poll seeks hears) h l =
       let before = subst (CheckReads old (past_of places since calls wire) b) is l in
       let x = seeks_list b wire places since at before.1 empties old new log log' starts d left poll (own_at c (reads at d found count) is sound).0 seeks calls told room (under_at c (reads at d found count) is h) before.4 in

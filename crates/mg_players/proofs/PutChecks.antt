@@ -26,7 +26,7 @@ use Rattle.mg_gridfs.specs.Checks as check
 use Rattle.mg_gridfs.specs.Checks.{Builds, CheckTurned, ChecksOn, ClientCheck, Creates, EndsList, GoesBehind, HearsAdvance, HearsAny, HearsCreation, HearsFind, HearsIndex, HearsIndexed, HearsList, HearsListing, IsSoundCheck, Looks, by_advance, by_creation, by_find, by_index, by_listing, creates, finds, indexes, lists, namespace_exists, reads}
 use Rattle.mg_gridfs.specs.declared.indexes.Place.{Place}
 use Rattle.mg_gridfs.specs.declared.indexes.Place.TheVariants as place
-use Rattle.mg_players.specs.PutChecks.{AreGetMores, CheckPasses, CheckSends, CheckSentAt, IsGetMore, SendsBefore, SendsBehind, SendsCreation, SendsFind, SendsIndex, SendsList, AsksForList, SendsPart, SendsWhole, any_find, count_at, creation, index_creation, listing, most_often, to_creation, to_find, to_index, to_list, to_listing, to_part, where_missing}
+use Rattle.mg_players.specs.PutChecks.{AreGetMores, CheckPasses, CheckSends, CheckSentAt, IsGetMore, OnlyAgain, SendsBefore, SendsBehind, SendsCreation, SendsFind, SendsIndex, SendsList, AsksForList, SendsPart, SendsWhole, any_find, count_at, creation, index_creation, listing, most_often, to_creation, to_find, to_index, to_list, to_listing, to_part, where_missing}
 use Rattle.mg_players.specs.PutFailures.{HeardCreation, HeardIndexes, HeardNone, HeardSome, HeardWhole}
 use Rattle.mg_players.specs.Sends.{CheckFlies}
 use Rattle.mg_players.proofs.PutChecking.{AddsTold}
@@ -45,7 +45,7 @@ count_behind again unsent attempt = count_of attempt
 count_behind again (first ticket) attempt = 1
 count_behind again (second ticket) attempt = most_often again
 
-once_at_most : (attempt : Attempt) → count_of attempt ≤ 1
+pub once_at_most : (attempt : Attempt) → count_of attempt ≤ 1
 once_at_most not_sent = omega arith
 once_at_most (waits ticket) = omega arith
 once_at_most (answered seen) = omega arith
@@ -152,12 +152,17 @@ module _ (old new : Awaited) (log log' : LogTold) (command : List ℕ) where
   tried_adds again (first ticket) attempt t = (0, gone_on_adds ticket attempt t, refl)
   tried_adds again (second ticket) attempt t = let n = most_often again in let same : n + 0 ≡ n = omega arith in (0, gone_on_adds ticket attempt t, same)
 
+-- so often it was sent behind a poll
+abbrev pub ran_count : (again : Bool) (old new : Awaited) (log log' : LogTold) (wire : ℤ) (s : Sending) (c : Step Sending (List ℕ)) → Runs old new log log' wire s c → ℕ
+ran_count again old new log log' wire s c (inl once) = count_behind again s.stage once.attempt
+ran_count again old new log log' wire s c (inr twice) = suc (count_of twice.again)
+
 -- A poll of a request adds its command so many times; with those before a read is sent twice at most, and a write once.
-runs_count : (again : Bool) (command : Fields) (old new : Awaited) (log log' : LogTold) (wire : ℤ) (s : Sending) → s.retries ≡ again → fields s.command ≡ command → (c : Step Sending (List ℕ)) → Runs old new log log' wire s c
-    → (more : ℕ) × AddsJust log log' (replicate more command) × IsCounted again c (count_at again s.stage + more)
+runs_count : (again : Bool) (command : Fields) (old new : Awaited) (log log' : LogTold) (wire : ℤ) (s : Sending) → s.retries ≡ again → fields s.command ≡ command → (c : Step Sending (List ℕ))
+    → (runs : Runs old new log log' wire s c) → (more : ℕ) × AddsJust log log' (replicate more command) × IsCounted again c (count_at again s.stage + more) × (count_at again s.stage + more ≡ ran_count again old new log log' wire s c runs)
 runs_count again command old new log log' wire s may is c (inl once) =
     let x = tried_adds old new log log' s.command again s.stage once.attempt once.tries in
-    (x.0, subst (λ (d : Fields). AddsJust log log' (replicate x.0 d)) is x.1, counted_once wire s again c once.attempt (count_at again s.stage + x.0) x.2 once.gives)
+    (x.0, subst (λ (d : Fields). AddsJust log log' (replicate x.0 d)) is x.1, counted_once wire s again c once.attempt (count_at again s.stage + x.0) x.2 once.gives, x.2)
 runs_count again command old new log log' wire s may is c (inr twice) =
     let r = repeated_once again s.stage twice.attempt (subst (λ (b : Bool). is_repeated b s.stage twice.attempt ≡ true) may twice.repeated) in
     let x = tried_adds old twice.between log twice.log_between s.command again s.stage twice.attempt twice.tries in
@@ -166,7 +171,7 @@ runs_count again command old new log log' wire s may is c (inr twice) =
     let both : AddsJust log log' (replicate (x.0 + n) (fields s.command)) =
     subst (AddsJust log log') (replicate-append-replicate x.0 n (fields s.command)) (just_on log twice.log_between log' (replicate x.0 (fields s.command)) (replicate n (fields s.command)) x.1 y) in
     let counts : suc n ≡ count_at again s.stage + (x.0 + n) = (let before = x.2 in let one = r.1 in omega (arith, before, one)) in
-    (x.0 + n, subst (λ (d : Fields). AddsJust log log' (replicate (x.0 + n) d)) is both, subst (IsCounted again c) counts (counted_twice wire s again r.0 c twice.again twice.gives))
+    (x.0 + n, subst (λ (d : Fields). AddsJust log log' (replicate (x.0 + n) d)) is both, subst (IsCounted again c) counts (counted_twice wire s again r.0 c twice.again twice.gives), sym counts)
 
 -- ---- what a list that is read on adds
 
@@ -228,8 +233,8 @@ module _ (past : Past) (b : ClientBucket) (at : Place) where
   of_creation : (count : ℕ) → count ≤ 1 → (commands : List Fields) → SendsBehind past b at (SendsCreation b at count) commands → CheckSends past b commands
   of_creation count few commands h = to_part at (behind_as (SendsCreation b at count) (SendsPart past b at) commands (λ part its. to_creation count few its) h)
 
-  of_listing : HeardCreation past b at → (count : ℕ) → count ≤ 2 → (commands : List Fields) → SendsBehind past b at (AsksForList b at count) commands → CheckSends past b commands
-  of_listing created count few commands h = to_part at (behind_as (AsksForList b at count) (SendsPart past b at) commands (λ part its. to_listing created count few its) h)
+  of_listing : HeardCreation past b at → (count : ℕ) → count ≤ 2 → OnlyAgain past (listing b at) count → (commands : List Fields) → SendsBehind past b at (AsksForList b at count) commands → CheckSends past b commands
+  of_listing created count few again commands h = to_part at (behind_as (AsksForList b at count) (SendsPart past b at) commands (λ part its. to_listing created count few again its) h)
 
   of_list : HeardCreation past b at → (commands : List Fields) → SendsBehind past b at (SendsList past b at) commands → CheckSends past b commands
   of_list created commands h = to_part at (behind_as (SendsList past b at) (SendsPart past b at) commands (λ part its. to_list created its) h)
@@ -242,19 +247,23 @@ module _ (past : Past) (b : ClientBucket) (at : Place) where
 
 -- however far it has come, these are its commands
 pub check_so_far : (past : Past) (b : ClientBucket) (commands : List Fields) (c : ClientCheck) → CheckSentAt past b commands c → CheckSends past b commands
-check_so_far past b commands (finds s) h = to_find (count_at true s.stage) (most_at true s.stage) h
+check_so_far past b commands (finds s) h = to_find (count_at true s.stage) (most_at true s.stage) h.1 h.0
 check_so_far past b commands (creates k s) h = of_creation past b k (count_at false s.stage) (most_at false s.stage) commands h
-check_so_far past b commands (lists k s) h = of_listing past b k h.0 (count_at true s.stage) (most_at true s.stage) commands h.1
+check_so_far past b commands (lists k s) h = of_listing past b k h.0 (count_at true s.stage) (most_at true s.stage) h.2 commands h.1
 check_so_far past b commands (reads k cursor found count) h = of_list past b k h.0 commands h.1
 check_so_far past b commands (indexes k s) h = of_index past b k h.0 h.1 (count_at false s.stage) (most_at false s.stage) commands h.2
 
 pub check_passed : (past : Past) (b : ClientBucket) (commands : List Fields) → CheckPasses past b commands → CheckSends past b commands
-check_passed past b commands (inl find) = to_find find.0.count find.0.few find.0.parts
+check_passed past b commands (inl find) = to_find find.0.count find.0.few find.0.again find.0.parts
 check_passed past b commands (inr whole) = of_whole past b place.Chunks commands whole
+
+-- what is not sent is not sent again
+none_again : (past : Past) (command : Fields) (s : Sending) → s.stage ≡ unsent → OnlyAgain past command (count_at true s.stage)
+none_again past command s new many = absurd (let none = ap (count_at true) new in omega (arith, many, none))
 
 -- it begins with nothing
 pub check_begins : (past : Past) (b : ClientBucket) (commands : List Fields) (s : Sending) → commands ≡ [] → s.stage ≡ unsent → CheckSentAt past b commands (finds s)
-check_begins past b commands s none new = none ∙ ap (λ (x : Stage). replicate (count_at true x) (any_find b)) (sym new)
+check_begins past b commands s none new = (none ∙ ap (λ (x : Stage). replicate (count_at true x) (any_find b)) (sym new), none_again past (any_find b) s new)
 
 -- ---- what comes of a step
 
@@ -311,9 +320,9 @@ IndexHeard past b k (came.Failed e) r h = Unit {0}
 
 -- what its step heard
 abbrev pub StepHeard : {old new : Awaited} {log log' : LogTold} {wire : ℤ} {c : ClientCheck} (past : Past) (b : ClientBucket) (r : CheckTurned) → ChecksOn old new log log' wire b c r → Type 0
-StepHeard {old} {new} {log} {log'} {wire} {c} past b r (by_find s is x runs hears) = FindHeard past b x r hears
+StepHeard {old} {new} {log} {log'} {wire} {c} past b r (by_find s is x runs hears) = FindHeard past b x r hears × OnlyAgain past (any_find b) (ran_count true old new log log' wire s x runs)
 StepHeard {old} {new} {log} {log'} {wire} {c} past b r (by_creation k s is x runs hears) = CreationHeard past b k x r hears
-StepHeard {old} {new} {log} {log'} {wire} {c} past b r (by_listing k s is x runs hears) = Unit {0}
+StepHeard {old} {new} {log} {log'} {wire} {c} past b r (by_listing k s is x runs hears) = OnlyAgain past (listing b k) (ran_count true old new log log' wire s x runs)
 StepHeard {old} {new} {log} {log'} {wire} {c} past b r (by_advance k cursor found count is empties starts left poll seeks hears) = AdvanceHeard past b k found poll × AddsTold (IsGetMore past b k) log log'
 StepHeard {old} {new} {log} {log'} {wire} {c} past b r (by_index k s is x runs hears) = IndexHeard past b k x r hears
 
@@ -335,17 +344,17 @@ module _ (past : Past) (b : ClientBucket) (commands : List Fields) where
 
   -- ---- the find
 
-  any_sent : (n : ℕ) → 1 ≤ n → n ≤ 2 → commands ≡ replicate n (any_find b) → (bytes : List ℕ) (r : CheckTurned) → (h : HearsAny b bytes r) → AnyHeard past b h → TurnSent past b commands r
-  any_sent n some few so bytes r (check.some said read there is) heard = turn_as r check.passes is (inl (record { count = n; parts = so; some = some; few = few }, heard))
-  any_sent n some few so bytes r (check.none said read empty builds) heard =
-      let find : SendsFind b commands = record { count = n; parts = so; some = some; few = few } in
-      builds_sent false _ (creates place.Files) r (part_begins place.Files (find, heard)) (to_find n few so) builds
-  any_sent n some few so bytes r (check.broke e fails is) heard = turn_as r (check.fails e) is (to_find n few so)
+  any_sent : (n : ℕ) → 1 ≤ n → n ≤ 2 → OnlyAgain past (any_find b) n → commands ≡ replicate n (any_find b) → (bytes : List ℕ) (r : CheckTurned) → (h : HearsAny b bytes r) → AnyHeard past b h → TurnSent past b commands r
+  any_sent n some few again so bytes r (check.some said read there is) heard = turn_as r check.passes is (inl (record { count = n; parts = so; some = some; few = few; again = again }, heard))
+  any_sent n some few again so bytes r (check.none said read empty builds) heard =
+      let find : SendsFind past b commands = record { count = n; parts = so; some = some; few = few; again = again } in
+      builds_sent false _ (creates place.Files) r (part_begins place.Files (find, heard)) (to_find n few again so) builds
+  any_sent n some few again so bytes r (check.broke e fails is) heard = turn_as r (check.fails e) is (to_find n few again so)
 
-  find_sent : (n : ℕ) → commands ≡ replicate n (any_find b) → (c : Step Sending (List ℕ)) → IsCounted true c n → (r : CheckTurned) → (h : HearsFind b c r) → FindHeard past b c r h → TurnSent past b commands r
-  find_sent n so (came.Pending s) counted r h heard = turn_as r (check.pends (finds s)) h (so ∙ ap (λ (m : ℕ). replicate m (any_find b)) counted)
-  find_sent n so (came.Done bytes) counted r h heard = any_sent n counted.0 counted.1 so bytes r h heard
-  find_sent n so (came.Failed e) counted r h heard = turn_as r (check.fails e) h (to_find n counted.1 so)
+  find_sent : (n : ℕ) → OnlyAgain past (any_find b) n → commands ≡ replicate n (any_find b) → (c : Step Sending (List ℕ)) → IsCounted true c n → (r : CheckTurned) → (h : HearsFind b c r) → FindHeard past b c r h → TurnSent past b commands r
+  find_sent n again so (came.Pending s) counted r h heard = turn_as r (check.pends (finds s)) h (so ∙ ap (λ (m : ℕ). replicate m (any_find b)) counted, subst (OnlyAgain past (any_find b)) counted again)
+  find_sent n again so (came.Done bytes) counted r h heard = any_sent n counted.0 counted.1 again so bytes r h heard
+  find_sent n again so (came.Failed e) counted r h heard = turn_as r (check.fails e) h (to_find n counted.1 again so)
 
   module _ (k : Place) where
     -- ---- the creation
@@ -358,7 +367,7 @@ module _ (past : Past) (b : ClientBucket) (commands : List Fields) where
 
     creation_goes : (n : ℕ) → 1 ≤ n → n ≤ 1 → SendsBehind past b k (SendsCreation b k n) commands → (lines : List Line) (r : CheckTurned) → HeardCreation past b k → Builds true lines (lists k) r → TurnSent past b commands r
     creation_goes n some few so lines r created builds =
-        builds_sent true lines (lists k) r (λ s new. (created, behind_as past b k (SendsCreation b k n) (AsksForList b k (count_at true s.stage)) commands (listing_next n some few s new) so)) (of_creation past b k n few commands so) builds
+        builds_sent true lines (lists k) r (λ s new. (created, behind_as past b k (SendsCreation b k n) (AsksForList b k (count_at true s.stage)) commands (listing_next n some few s new) so, none_again past (listing b k) s new)) (of_creation past b k n few commands so) builds
 
     -- one that is refused since the collection is there was sent
     refused_sent : (n : ℕ) (c : Step Sending (List ℕ)) (e e' : Error) → (1 ≤ n) ⊎ (e ≡ plain kind.OutOfMemory) → c ≡ came.Failed e → c ≡ came.Failed e' → command_code e'.kind ≡ Some namespace_exists → 1 ≤ n
@@ -388,18 +397,18 @@ module _ (past : Past) (b : ClientBucket) (commands : List Fields) where
 
     -- ---- the list
 
-    list_begins : (n : ℕ) → 1 ≤ n → n ≤ 2 → (part : List Fields) → AsksForList b k n part → SendsList past b k part
-    list_begins n some few part so = record { asked = n; mores = []; parts = so ∙ ap (λ (l : List Fields). creation b k ∷ l) (sym (append-nil (replicate n (listing b k)))); some = some; few = few; read_on = tt }
+    list_begins : (n : ℕ) → 1 ≤ n → n ≤ 2 → OnlyAgain past (listing b k) n → (part : List Fields) → AsksForList b k n part → SendsList past b k part
+    list_begins n some few again part so = record { again = again; asked = n; mores = []; parts = so ∙ ap (λ (l : List Fields). creation b k ∷ l) (sym (append-nil (replicate n (listing b k)))); some = some; few = few; read_on = tt }
 
-    list_sent : HeardCreation past b k → (n : ℕ) → 1 ≤ n → n ≤ 2 → SendsBehind past b k (AsksForList b k n) commands → (bytes : List ℕ) (r : CheckTurned) → HearsList k bytes r → TurnSent past b commands r
-    list_sent created n some few so bytes r (check.opened out opens is) =
-        turn_as r (check.goes (reads k (new_documents (new_client out)) false 0)) is (created, behind_as past b k (AsksForList b k n) (SendsList past b k) commands (list_begins n some few) so)
-    list_sent created n some few so bytes r (check.broke e fails is) = turn_as r (check.fails e) is (of_listing past b k created n few commands so)
+    list_sent : HeardCreation past b k → (n : ℕ) → 1 ≤ n → n ≤ 2 → OnlyAgain past (listing b k) n → SendsBehind past b k (AsksForList b k n) commands → (bytes : List ℕ) (r : CheckTurned) → HearsList k bytes r → TurnSent past b commands r
+    list_sent created n some few again so bytes r (check.opened out opens is) =
+        turn_as r (check.goes (reads k (new_documents (new_client out)) false 0)) is (created, behind_as past b k (AsksForList b k n) (SendsList past b k) commands (list_begins n some few again) so)
+    list_sent created n some few again so bytes r (check.broke e fails is) = turn_as r (check.fails e) is (of_listing past b k created n few again commands so)
 
-    listing_sent : HeardCreation past b k → (n : ℕ) → SendsBehind past b k (AsksForList b k n) commands → (c : Step Sending (List ℕ)) → IsCounted true c n → (r : CheckTurned) → HearsListing k c r → TurnSent past b commands r
-    listing_sent created n so (came.Pending s) counted r h = turn_as r (check.pends (lists k s)) h (created, subst (λ (m : ℕ). SendsBehind past b k (AsksForList b k m) commands) counted so)
-    listing_sent created n so (came.Done bytes) counted r h = list_sent created n counted.0 counted.1 so bytes r h
-    listing_sent created n so (came.Failed e) counted r h = turn_as r (check.fails e) h (of_listing past b k created n counted.1 commands so)
+    listing_sent : HeardCreation past b k → (n : ℕ) → OnlyAgain past (listing b k) n → SendsBehind past b k (AsksForList b k n) commands → (c : Step Sending (List ℕ)) → IsCounted true c n → (r : CheckTurned) → HearsListing k c r → TurnSent past b commands r
+    listing_sent created n again so (came.Pending s) counted r h = turn_as r (check.pends (lists k s)) h (created, subst (λ (m : ℕ). SendsBehind past b k (AsksForList b k m) commands) counted so, subst (OnlyAgain past (listing b k)) counted again)
+    listing_sent created n again so (came.Done bytes) counted r h = list_sent created n counted.0 counted.1 again so bytes r h
+    listing_sent created n again so (came.Failed e) counted r h = turn_as r (check.fails e) h (of_listing past b k created n counted.1 again commands so)
 
     module _ (created : HeardCreation past b k) (so : SendsBehind past b k (SendsList past b k) commands) where
       look_sent : (cursor : DocumentCursor) (document : List ℕ) (found : Bool) (count : ℕ) (r : CheckTurned) → Looks k cursor document found count r → TurnSent past b commands r
@@ -455,6 +464,7 @@ module _ (past : Past) (b : ClientBucket) (k : Place) (commands : List Fields) w
     parts = ap (λ (l : List Fields). l ++ more) its.parts ∙ ap (λ (l : List Fields). creation b k ∷ l) (append_assoc (replicate its.asked (listing b k)) its.mores more);
     some = its.some;
     few = its.few;
+    again = its.again;
     read_on = mores_on past b k its.mores more its.read_on mores;
   }) so
 
@@ -479,7 +489,7 @@ module _ (past : Past) (b : ClientBucket) (old new : Awaited) (log log' : LogTol
       let n = count_at true s.stage in
       let a = runs_count true (any_find b) old new log log' wire s request.retries_is request.command_is x runs in
       let more = replicate a.0 (any_find b) in
-      (more, a.1, find_sent past b (commands ++ more) (n + a.0) (times_more commands n a.0 (any_find b) (subst (CheckSentAt past b commands) is sent)) x a.2 r hears heard)
+      (more, a.1, find_sent past b (commands ++ more) (n + a.0) (subst (OnlyAgain past (any_find b)) (sym a.3) heard.1) (times_more commands n a.0 (any_find b) (subst (CheckSentAt past b commands) is sent).0) x a.2 r hears heard.0)
   check_adds c r sound flies sent (by_creation k s is x runs hears) heard =
       let request = subst (IsSoundCheck b) is sound in
       let n = count_at false s.stage in
@@ -492,7 +502,7 @@ module _ (past : Past) (b : ClientBucket) (old new : Awaited) (log log' : LogTol
       let n = count_at true s.stage in
       let a = runs_count true (listing b k) old new log log' wire s request.retries_is request.command_is x runs in
       let more = replicate a.0 (listing b k) in
-      (more, a.1, listing_sent past b (commands ++ more) k before.0 (n + a.0) (listing_more past b k commands n a.0 before.1) x a.2 r hears)
+      (more, a.1, listing_sent past b (commands ++ more) k before.0 (n + a.0) (subst (OnlyAgain past (listing b k)) (sym a.3) heard) (listing_more past b k commands n a.0 before.1) x a.2 r hears)
   check_adds c r sound flies sent (by_advance k cursor found count is empties starts left poll seeks hears) heard =
       let before = subst (CheckSentAt past b commands) is sent in
       let a = mores_told past b k log log' heard.1 in

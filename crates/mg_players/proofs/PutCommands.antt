@@ -29,7 +29,7 @@ pieces_on supply t from (c ∷ commands) between command upto head next = (head.
 -- ---- one command more
 
 pub sent_nothing : (supply : Supply) (t : PutTask) (ever : Past) → SentChunks supply t ever [] false 0
-sent_nothing supply t ever = record { check = []; chunks = []; parts = refl; of_check = to_find 0 (omega arith) refl; pieces = refl; passed = λ is. absurd cc; unneeded = λ small. refl; nothing = λ is. refl }
+sent_nothing supply t ever = record { check = []; chunks = []; parts = refl; of_check = to_find 0 (omega arith) (λ many. absurd (omega (arith, many))) refl; pieces = refl; passed = λ is. absurd cc; unneeded = λ small. refl; nothing = λ is. refl }
 
 pub chunks_more : (supply : Supply) (t : PutTask) (ever : Past) (commands : List Fields) (from upto : ℕ) (command : Fields) → InsertsChunks supply t from upto command → SentChunks supply t ever commands true from → SentChunks supply t ever (commands ++ command ∷ []) true upto
 chunks_more supply t ever commands from upto command next s = record {

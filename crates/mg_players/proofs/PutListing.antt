@@ -143,6 +143,20 @@ none_held (asks sending) none = refl
 pub none_few : 0 < most_empty
 none_few = omega arith
 
+-- the first batch alone is not too many
+first_few : (o : Option (List (List ℕ))) → empty_with 0 o < most_empty
+first_few None = omega arith
+first_few (Some []) = omega arith
+first_few (Some (x ∷ xs)) = omega arith
+
+-- not too many batches are empty at the end of a list that is read
+few_in_row : (awaited : Awaited) (past : Past) (b : ClientBucket) (d : DocumentCursor) (k : Place) (given : List (List ℕ)) (l : ReadsList awaited past b d k given) (doing : client.Doing) → d.cursor.doing ≡ doing → last_empty l.of_list < most_empty
+few_in_row awaited past b d k given l rests is = let all = l.empties ∙ ap (λ (y : client.Doing). empty_taken y (last_empty l.of_list)) is in let few = l.few in omega (arith, all, few)
+few_in_row awaited past b d k given l (holds bytes) is =
+    let first = first_few (documents_of l.of_list.first) in
+    subst (λ (replies : List (ℕ × List ℕ)). empty_by (empty_with 0 (documents_of l.of_list.first)) replies < most_empty) (sym (l.hand bytes is).1) first
+few_in_row awaited past b d k given l (asks sending) is = let all = l.empties ∙ ap (λ (y : client.Doing). empty_taken y (last_empty l.of_list)) is in let few = l.few in omega (arith, all, few)
+
 module _ (past : Past) (b : ClientBucket) where
   -- what is in hand or on its way makes no difference
   abbrev resting_as : (c c' : ClientCursor) → at_rest c' ≡ at_rest c → IsOfList past b c → IsOfList past b c'
@@ -351,7 +365,7 @@ module _ (new : Awaited) (past : Past) (b : ClientBucket) (d : DocumentCursor) (
     ended_whole : (c : ClientCursor) → PollsNext old new log log' wire None started d.cursor c next.End → HeardList past b k given
     ended_whole c asked =
         let e = ends_over old new log log' wire started d.cursor c asked in
-        record { cursor = d.cursor; of_list = its; is_at = l.is_at; over = over_there begun b d.cursor l.of_list e.1; all = l.all ∙ none_more given d.behind (documents_held d.cursor.doing) none_left (ap documents_held e.0) }
+        record { cursor = d.cursor; of_list = its; is_at = l.is_at; over = over_there begun b d.cursor l.of_list e.1; few = few_in_row before begun b d k given l d.cursor.doing refl; all = l.all ∙ none_more given d.behind (documents_held d.cursor.doing) none_left (ap documents_held e.0) }
 
     taken_by : (c : ClientCursor) (p : NextPoll) (d' : DocumentCursor) (r : TryPoll) → PollsNext old new log log' wire None started d.cursor c p → NextLater new past d.cursor c p Most → TakesNext d c p d' r → AdvancedBy new r past b d d' k given
     taken_by c next.Pending d' r asked later h = as_advanced d' (filled_with c [] d) r try.Pending h.0 h.1 (waits_on c (pending_more old new log log' wire started d.cursor c asked) later)
@@ -467,23 +481,23 @@ module _ (b : ClientBucket) (wire : ℤ) (places : List ℕ) (since : ℕ) (k : 
   mores_later : (calls mid calls' : List Call) → Keeps mid calls' → AddsOnly (IsGetMore (past_of places since mid wire) b k) calls mid → AddsOnly (IsGetMore (past_of places since calls' wire) b k) calls mid
   mores_later calls mid calls' keeps a =
       mores_as (IsGetMore (past_of places since mid wire) b k) (IsGetMore (past_of places since calls' wire) b k) calls mid
-      (λ command m. record { cursor = m.cursor; of_list = of_list_grows (past_of places since mid wire) (past_of places since calls' wire) (log_just places since mid calls' wire keeps) b m.cursor m.of_list; is_at = m.is_at; held = m.held; command_is = m.command_is }) a
+      (λ command m. record { cursor = m.cursor; of_list = of_list_grows (past_of places since mid wire) (past_of places since calls' wire) (log_just places since mid calls' wire keeps) b m.cursor m.of_list; is_at = m.is_at; held = m.held; few = m.few; command_is = m.command_is }) a
 
-  advance_asks : (old new : Awaited) (log log' : LogTold) (started : Bool) (d d' : DocumentCursor) (r : TryPoll) → IsSound true d.cursor → AdvancesOnce old new log log' wire None started d d' r → (calls : List Call) → log ≡ Some calls → (l : IsOfList (past_of places since calls wire) b d.cursor) → l.at ≡ k → Grew places since calls log' wire (MoresFrom calls)
-  advance_asks old new log log' started d d' r sound once calls told l at =
+  advance_asks : (old new : Awaited) (log log' : LogTold) (started : Bool) (d d' : DocumentCursor) (r : TryPoll) → IsSound true d.cursor → AdvancesOnce old new log log' wire None started d d' r → (calls : List Call) → log ≡ Some calls → (l : IsOfList (past_of places since calls wire) b d.cursor) → l.at ≡ k → last_empty l < most_empty → Grew places since calls log' wire (MoresFrom calls)
+  advance_asks old new log log' started d d' r sound once calls told l at few =
       let past : Past = past_of places since calls wire in
       let a = (more_sends old new log log' wire started d d' r sound (list_manner past d.cursor l) once).0 calls told in
       let now : Past = past_of places since a.0 wire in
-      (a.0, a.1, a.2.keeps, mores_as (IsMoreBy d.cursor) (IsGetMore now b k) calls a.0 (λ command m. record { cursor = d.cursor; of_list = of_list_grows past now (log_just places since calls a.0 wire a.2.keeps) b d.cursor l; is_at = at; held = m.0; command_is = m.1 }) a.2)
+      (a.0, a.1, a.2.keeps, mores_as (IsMoreBy d.cursor) (IsGetMore now b k) calls a.0 (λ command m. record { cursor = d.cursor; of_list = of_list_grows past now (log_just places since calls a.0 wire a.2.keeps) b d.cursor l; is_at = at; held = m.0; few = few; command_is = m.1 }) a.2)
 
   -- A step that reads the list sends just such getMores.
   pub seeks_asks : (n : ℕ) (old new : Awaited) (log log' : LogTold) (starts : ℕ) (d d' : DocumentCursor) (r : AdvancePoll) → IsSound true d.cursor → SeeksDocument n old new log log' wire None starts d d' r → (calls : List Call) → log ≡ Some calls → since ≤ length calls → IsUnderway old (past_of places since calls wire) d.cursor → ReadsList old (past_of places since calls wire) b d k given
       → Grew places since calls log' wire (MoresFrom calls)
   unfolding SeeksDocument
-  seeks_asks zero old new log log' starts d d' r sound last calls told room under l = advance_asks old new log log' last.started d last.advanced last.poll sound last.tries calls told l.of_list l.is_at
+  seeks_asks zero old new log log' starts d d' r sound last calls told room under l = advance_asks old new log log' last.started d last.advanced last.poll sound last.tries calls told l.of_list l.is_at (few_in_row old (past_of places since calls wire) b d k given l d.cursor.doing refl)
   seeks_asks (suc n) old new log log' starts d d' r sound more calls told room under l =
       let on = more.5 in
-      let a = advance_asks old more.0 log more.1 more.2 d on.advanced (try.Ready result.Waiting) sound on.tries calls told l.of_list l.is_at in
+      let a = advance_asks old more.0 log more.1 more.2 d on.advanced (try.Ready result.Waiting) sound on.tries calls told l.of_list l.is_at (few_in_row old (past_of places since calls wire) b d k given l d.cursor.doing refl) in
       let x = advance_reads old more.0 log more.1 more.2 d on.advanced (try.Ready result.Waiting) sound on.tries calls told room under l in
       let same : a.0 ≡ x.0 = same_some a.0 x.0 (sym a.1 ∙ x.1) in
       let first : MoresFrom calls (past_of places since x.0 wire) = subst (λ (cs : List Call). MoresFrom calls (past_of places since cs wire)) same a.3 in

@@ -1,5 +1,5 @@
 -- What the answers of jobs are caused by, and what jobs wait for: by the turns in which they sent their commands.
-use Rattle.std.specs.Prelude.{◌≡◌, ◌↔◌, ◌⊎◌, ◌<◌, ◌≤◌, ◌+◌, ◌*◌, ◌++◌, IsTrue, false, true, Bool, cond, nat_eq, ℕ, suc, ℤ, List, [], ◌∷◌, length, Option, Some, None, slice_get, IsSome, take}
+use Rattle.std.specs.Prelude.{◌≡◌, ◌≢◌, ◌↔◌, ◌⊎◌, ◌<◌, ◌≤◌, ◌+◌, ◌*◌, ◌++◌, IsTrue, false, true, Bool, cond, nat_eq, ℕ, suc, ℤ, List, [], ◌∷◌, length, Option, Some, None, slice_get, IsSome, take}
 use Rattle.std.specs.List.{concat, sum_by}
 use Rattle.mg_bson.specs.Tree.{Tree, Fields}
 use Rattle.mg_bson.specs.Raw.{fields}
@@ -35,7 +35,7 @@ use Rattle.mg_turns.specs.Counts.{PolledBy}
 use Rattle.mg_players.specs.Drawing.{as_sent, supply_of}
 use Rattle.mg_players.specs.Follows.{FollowedFrom, IsArgsFor, IsUnfinished, poll_of}
 use Rattle.mg_players.specs.Buckets.{plain_bucket}
-use Rattle.mg_change.specs.Calling.{CallSends, OpensAt}
+use Rattle.mg_change.specs.Calling.{CallSends, IsRequestAt, OpensAt}
 pub use Rattle.mg_change.specs.Calling.{places_from, sent_at, sent_since}
 use Rattle.mg_players.specs.Gets.{AsksPlainly, GetTask, IsFindAt, chunks_find, get_of, more_chunks, no_room, record_find, room_of}
 use Rattle.mg_gridfs.specs.Buckets.{IsSize}
@@ -50,7 +50,7 @@ use Rattle.mg_ops.specs.InsertCauses.{InsertFails, InsertWaits}
 use Rattle.mg_ops.specs.InsertSends.{InsertPieces}
 use Rattle.mg_script.specs.Plan.{Begin, Task, insert, follow, put, get}
 use Rattle.mg_players.specs.Progress.{pends_last, turns_done}
-use Rattle.mg_players.specs.Reading.{HeardEmpty, HeardHeld, ListsOther, ReadStops}
+use Rattle.mg_players.specs.Reading.{FailsSo, GivesBy, GivesNone, GoesOn, HeardEmpty, HeardHeld, IsBegun, ListsOther, ReadStops}
 use Rattle.mg_script.specs.declared.outcome.Answer.{Answer}
 use Rattle.mg_script.specs.declared.outcome.Answer.TheVariants as answers
 use Rattle.mg_script.specs.declared.outcome.Ended.{Ended}
@@ -246,11 +246,25 @@ FollowCaused awaited c i count calls wire on start filter batch (ended.Failed e)
 
 -- ---- a get
 
+abbrev pub ListsAt : List Call → GetTask → Option FileRecord → List ℕ → Type 0
+ListsAt calls g None listing = listing ≡ []
+ListsAt calls g (Some f) listing = (listing ≡ []) ⊎ ((f.length ≢ 0) × IsRequestAt calls (chunks_find g f.id) true listing)
+
+-- These are the places of the find of the record, and behind them those of the list of the chunks of a file with bytes whose record was found. Each was sent once
+-- more only where what was sent before was lost, or refused so that a read is sent again.
+pub record FindsAt (calls : List Call) (g : GetTask) (found : Option FileRecord) (places : List ℕ) : Type 0 where
+  pub finding : List ℕ
+  pub listing : List ℕ
+  pub whole : places ≡ finding ++ listing
+  pub record_at : IsRequestAt calls (record_find g) true finding
+  pub list_at : ListsAt calls g found listing
+
 -- An opening sent at these places just the find of the record, at most twice, and then, where a record of a file with bytes was found, which it heard, that of the
 -- chunks of this file, at most twice.
 pub record OpeningAsks (calls : List Call) (wire : ℤ) (g : GetTask) (found : Option FileRecord) (places : List ℕ) : Type 0 where
   pub finds : FallsAt (IsFindAt g found) calls 5 places 1
   pub heard : (f : FileRecord) → found ≡ Some f → HeardRecord (sent_at places calls wire) (plain_bucket g.at) g.id (Some f)
+  pub sends : FindsAt calls g found places
 
 -- its opening heard this record, and listed the chunks of no other file, and none where it has no bytes
 pub record GetOpened (c : Course) (i : ℕ) (calls : List Call) (wire : ℤ) (g : GetTask) (f : FileRecord) : Type 0 where
@@ -258,6 +272,7 @@ pub record GetOpened (c : Course) (i : ℕ) (calls : List Call) (wire : ℤ) (g 
   pub sent : AllSentIn c i 0 places
   pub heard : HeardRecord (sent_at places calls wire) (plain_bucket g.at) g.id (Some f)
   pub finds : FallsAt (IsFindAt g (Some f)) calls 5 places 1
+  pub sends : FindsAt calls g (Some f) places
 
 -- so many calls behind an opening gave so many bytes: each gave one or more, and no more than a read has room for
 abbrev pub GaveBy : (count bytes read : ℕ) → Type 0
@@ -274,25 +289,39 @@ pub record GetSent (c : Course) (i : ℕ) (calls : List Call) (g : GetTask) (byt
   pub more : AllAskOn calls (opened ++ (concat owns ++ now)) (concat owns ++ now)
   pub gave : GaveBy k bytes g.read
 
+-- The calls behind an opening that sent at these places gave these bytes, one behind another, each one or more, into so much room: they took the download from one
+-- state to another.
+abbrev pub GaveAll : List Call → ℤ → ℕ → ClientDownload → List (List ℕ) → List ℕ → ClientDownload → Type 0
+GaveAll calls wire room d [] bytes last = (bytes ≡ []) × (last ≡ d)
+GaveAll calls wire room d (own ∷ owns) bytes last = (given rest : List ℕ) × (after : ClientDownload) × (bytes ≡ given ++ rest) × (0 < length given) × GivesBy (sent_at own calls wire) room d after given × GaveAll calls wire room after owns rest last
+
+-- All bytes of a get of the file with this record came so from what its opening heard, at the first places, to where its download stands.
+pub record HasRead (calls : List Call) (wire : ℤ) (g : GetTask) (f : FileRecord) (opened : List ℕ) (owns : List (List ℕ)) (bytes : List ℕ) (last : ClientDownload) : Type 0 where
+  pub first : ClientDownload
+  pub begun : IsBegun (sent_at opened calls wire) g first
+  pub file : first.file ≡ f
+  pub gave : GaveAll calls wire (room_of g.read) first owns bytes last
+
 -- Why a read of the file with this record failed, whose call sent at these places, by all that the get sent: its opening listed the chunks at this place, and what
 -- this cursor held as the call began was heard.
-pub record GetStopped (c : Course) (i : ℕ) (calls : List Call) (wire : ℤ) (g : GetTask) (f : FileRecord) (cursor : ClientCursor) (call : List ℕ) (e : Error) : Type 0 where
+pub record GetStopped (c : Course) (i : ℕ) (calls : List Call) (wire : ℤ) (g : GetTask) (f : FileRecord) (cursor : ClientCursor) (call : List ℕ) (last : ClientDownload) (e : Error) : Type 0 where
   pub places : List ℕ
   pub sent : AreSentIn c i places
   pub listed : ℕ
   pub by_opening : SentIn c i 0 listed
   pub held : HeardHeld (sent_at places calls wire) g f cursor
-  pub why : ReadStops (sent_at places calls wire) (HeardEmpty (sent_at places calls wire) (sent_at call calls wire) g f) (ListsOther calls g.at f listed e) e
+  pub why : ReadStops (sent_at places calls wire) (HeardEmpty (sent_at places calls wire) (sent_at call calls wire) g f last) (ListsOther calls g.at f listed e) e
 
 -- Why a get fails: memory ran out; a read is to have no room, and then it may send nothing; its opening fails, for which all was sent; or a read of the file whose
 -- record the opening heard, which asks for more chunks by its own cursor, without options, and behind which nothing was sent: that of the first turn that did not
--- pend behind so many calls.
-pub data GetFails (c : Course) (i : ℕ) (calls : List Call) (wire : ℤ) (g : GetTask) (bytes : ℕ) (e : Error) : Type 0 where
+-- pend behind so many calls. It counts the chunks of all batches that the get took.
+pub data GetFails (c : Course) (i : ℕ) (calls : List Call) (wire : ℤ) (g : GetTask) (bytes : List ℕ) (e : Error) : Type 0 where
   out_of_memory : e.kind ≡ kind.OutOfMemory → GetFails c i calls wire g bytes e
   has_no_room : g.read ≡ 0 → e ≡ no_room → GetFails c i calls wire g bytes e
   not_opened : 0 < g.read → (places : List ℕ) → AllSentIn c i 0 places → files.OpeningFails (sent_at places calls wire) (plain_bucket g.at) g.id e → places ≡ places_of c i → GetFails c i calls wire g bytes e
   not_read : 0 < g.read → (d : ClientDownload) (opened : GetOpened c i calls wire g d.file) (k : ℕ) → suc (suc k) ≤ turns_done i c.order c.notes → (places : List ℕ) → AllSentIn c i (suc k) places → (cursor : ClientCursor) → ReadFails (sent_at places calls wire) d cursor e
-      → cursor_in d.doing ≡ Some cursor → IsSoundDownload d → AsksPlainly d → GetSent c i calls g bytes opened.places k places → GetStopped c i calls wire g d.file cursor places e → GetFails c i calls wire g bytes e
+      → cursor_in d.doing ≡ Some cursor → IsSoundDownload d → AsksPlainly d → (s : GetSent c i calls g (length bytes) opened.places k places)
+      → (last : ClientDownload) → GetStopped c i calls wire g d.file cursor places last e → HasRead calls wire g d.file opened.places s.owns bytes last → FailsSo (sent_at places calls wire) (room_of g.read) last e → GetFails c i calls wire g bytes e
 
 -- What a get waits for: the record, or the list of the chunks of the record that was heard, for which all was sent; or more of them.
 pub data GetWaits (awaited : Awaited) (c : Course) (i : ℕ) (calls : List Call) (wire : ℤ) (g : GetTask) (bytes : ℕ) : Type 0 where
@@ -301,16 +330,34 @@ pub data GetWaits (awaited : Awaited) (c : Course) (i : ℕ) (calls : List Call)
   for_more : (k : ℕ) (places : List ℕ) → AllSentIn c i (suc k) places → (cursor : ℤ) (space : Space) → IsAwaited awaited (sent_at places calls wire) (more_chunks cursor space)
       → (f : FileRecord) (opened : GetOpened c i calls wire g f) → GetSent c i calls g bytes opened.places k places → GetWaits awaited c i calls wire g bytes
 
--- what a get sent that has not ended, or that failed: commands of its opening, if any, and it gave no byte; or its opening heard a record
-pub data GetStands (c : Course) (i : ℕ) (calls : List Call) (wire : ℤ) (g : GetTask) (bytes : ℕ) : Type 0 where
-  unopened : bytes ≡ 0 → AllSentIn c i 0 (places_of c i) → (found : Option FileRecord) → OpeningAsks calls wire g found (places_of c i) → GetStands c i calls wire g bytes
-  has_opened : (f : FileRecord) (opened : GetOpened c i calls wire g f) (k : ℕ) (places : List ℕ) → GetSent c i calls g bytes opened.places k places → GetStands c i calls wire g bytes
+-- What a get sent of which so many calls ended well, the opening first, and what it sent behind them is so: commands of its opening, if any, and it gave no
+-- byte; or its opening heard a record, and the calls behind it gave its bytes.
+pub data GetStands (c : Course) (i : ℕ) (calls : List Call) (wire : ℤ) (g : GetTask) (bytes : List ℕ) (well : ℕ) (So : List ℕ → Type 0) (Goes : ClientDownload → List ℕ → Type 0) : Type 0 where
+  unopened : well ≡ 0 → bytes ≡ [] → AllSentIn c i 0 (places_of c i) → So (places_of c i) → (found : Option FileRecord) → OpeningAsks calls wire g found (places_of c i) → GetStands c i calls wire g bytes well So Goes
+  has_opened : (f : FileRecord) (opened : GetOpened c i calls wire g f) (k : ℕ) → well ≡ suc k → (places : List ℕ) → So places → (s : GetSent c i calls g (length bytes) opened.places k places)
+      → (last : ClientDownload) → HasRead calls wire g f opened.places s.owns bytes last → Goes last places → GetStands c i calls wire g bytes well So Goes
 
--- where its newest turn pended and it has not ended, it waits; where it ended well, its opening heard a record
-abbrev pub GetCaused : {A : Type 0} → Awaited → Course → ℕ → List Call → ℤ → GetTask → ℕ → Ended A → Type 0
-GetCaused awaited c i calls wire g bytes ended.Unfinished = (pends_last i c.order c.notes ≡ true → GetWaits awaited c i calls wire g bytes) × GetStands c i calls wire g bytes
-GetCaused awaited c i calls wire g bytes (ended.Gave x) = (0 < g.read) × (f : FileRecord) × (opened : GetOpened c i calls wire g f) × (k : ℕ) × (suc (suc k) ≤ turns_done i c.order c.notes) × (places : List ℕ) × GetSent c i calls g bytes opened.places k places
-GetCaused awaited c i calls wire g bytes (ended.Failed e) = GetFails c i calls wire g bytes e × GetStands c i calls wire g bytes
+-- where the newest turn of a job did not pend, nothing was sent for what goes on
+abbrev pub SentIfPends : Course → ℕ → List ℕ → Type 0
+SentIfPends c i now = pends_last i c.order c.notes ≡ false → now ≡ []
+
+-- the call in hand of a get began with this download, sent at these places, and goes on
+abbrev pub ReadGoesOn : Awaited → Course → ℕ → List Call → ℤ → GetTask → ClientDownload → List ℕ → Type 0
+ReadGoesOn awaited c i calls wire g last now = (d : ClientDownload) × GoesOn awaited (sent_at (places_of c i) calls wire) (sent_at now calls wire) g (room_of g.read) last d d.doing
+
+-- How a get failed: so many calls ended well, and one more turn did not pend, in which it failed.
+pub record GetFailed (c : Course) (i : ℕ) (calls : List Call) (wire : ℤ) (g : GetTask) (bytes : List ℕ) : Type 0 where
+  pub well : ℕ
+  pub turned : suc well ≤ turns_done i c.order c.notes
+  pub stands : GetStands c i calls wire g bytes well (λ (now : List ℕ). Unit {0}) (λ (last : ClientDownload) (now : List ℕ). Unit {0})
+
+-- One that is unfinished had a call that ended well in each turn that did not pend; where its newest turn pended, it waits, and otherwise nothing was sent behind
+-- those calls. Where it ended well, its opening heard a record, its calls gave all bytes, and one more gave none.
+abbrev pub GetCaused : {A : Type 0} → Awaited → Course → ℕ → List Call → ℤ → GetTask → List ℕ → Ended A → Type 0
+GetCaused awaited c i calls wire g bytes ended.Unfinished = (pends_last i c.order c.notes ≡ true → GetWaits awaited c i calls wire g (length bytes)) × GetStands c i calls wire g bytes (turns_done i c.order c.notes) (SentIfPends c i) (ReadGoesOn awaited c i calls wire g)
+GetCaused awaited c i calls wire g bytes (ended.Gave x) = (0 < g.read) × (f : FileRecord) × (opened : GetOpened c i calls wire g f) × (k : ℕ) × (suc (suc k) ≤ turns_done i c.order c.notes) × (places : List ℕ) × (s : GetSent c i calls g (length bytes) opened.places k places)
+    × (last : ClientDownload) × HasRead calls wire g f opened.places s.owns bytes last × GivesNone (sent_at places calls wire) (room_of g.read) last
+GetCaused awaited c i calls wire g bytes (ended.Failed e) = GetFails c i calls wire g bytes e × GetFailed c i calls wire g bytes
 
 -- ---- a put
 
@@ -390,7 +437,7 @@ abbrev pub OutcomeCaused : Awaited → Course → ℕ → List Call → ℤ → 
 OutcomeCaused awaited c i calls wire supply (follow on count start filter batch) = OfFollow (λ opened said token alive closed. FollowCaused awaited c i count calls wire on start filter batch opened said.items token alive closed)
 OutcomeCaused awaited c i calls wire supply (insert ns docs) = OfInsert (λ end. InsertEnds awaited c i calls wire ns docs end)
 OutcomeCaused awaited c i calls wire supply (put db bucket name id chunk pieces) = OfPut (λ end. PutEnds awaited c i calls wire supply (put_of db bucket name id chunk pieces) end)
-OutcomeCaused awaited c i calls wire supply (get db bucket id read) = OfGet (λ bytes end. GetCaused awaited c i calls wire (get_of db bucket id read) (length bytes.items) end)
+OutcomeCaused awaited c i calls wire supply (get db bucket id read) = OfGet (λ bytes end. GetCaused awaited c i calls wire (get_of db bucket id read) bytes.items end)
 
 -- Over a link that tells its log and awaits these replies, each job's outcome has its causes, and what it waits for, among the commands of its own turns;
 -- jobs draw these ids, and new records get this moment.

@@ -20,7 +20,7 @@ use Rattle.mg_records.specs.FileRecords.{FileRecord, file_record_of}
 use Rattle.mg_chunks.specs.Broken.{Breaks}
 use Rattle.mg_gridfs.specs.Downloaded.{AreReceived, chunks_query, record_query}
 use Rattle.mg_players.specs.Causes.{Course, SentIn}
-use Rattle.mg_players.specs.Reading.{Differ}
+use Rattle.mg_players.specs.Reading.{AsksFor, Differ}
 
 -- ---- the steps of a job
 
@@ -105,6 +105,11 @@ pub record FirstHold (file : FileRecord) (bytes : List ℕ) (stood : List Fields
   pub cut : stood ≡ documents ++ left
   pub received : AreReceived file 0 chunks documents
   pub together : concat chunks ≡ bytes
+
+-- The command at this place asked for the chunks of the file; so are those that stood as it took effect, in each legal history in which the log stands.
+pub record ListsSo (calls : List Call) (b : Bucket) (file : FileRecord) (listed : ℕ) (So : List Fields → Type 0) : Type 0 where
+  pub asked_so : AsksFor calls listed (chunks_query (chunks_space b) file.id)
+  pub each : (history : List Step) → IsLegal history → Stands calls history → (position : ℕ) × (asked_so.call.position ≡ Some position) × So (file_of (state_of (take (suc position) history)) b file.id).chunks
 
 -- All chunks that stood, each with its number, from 0 on, and as long as the record says, are as many as it says, and hold these bytes.
 pub record AllHold (file : FileRecord) (bytes : List ℕ) (stood : List Fields) : Type 0 where

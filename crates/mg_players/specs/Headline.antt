@@ -175,13 +175,17 @@ abbrev pub GaveFront : Course → ℕ → List Call → GetTask → List ℕ →
 GaveFront c i calls g bytes = (history : List Step) → IsLegal history → Stands calls history → (first last : ℕ) → IsFirstStepOf c i calls first → IsLastStepOf c i calls last → OthersLeaveFrom c i calls history g.at g.id first last
     → (whole : List ℕ) (size : ℕ) → IsWhole (state_of (take first history)) g.at g.id whole size → (left : List ℕ) × (whole ≡ bytes ++ left)
 
--- A get that ended well gave the bytes of its file, and one that is unfinished the first of them. Whatever became of the file, they are those of all chunks that
--- stood as its own step listed them, behind a step of its own that found their record, or begin what the first of them hold. One that failed blames a chunk only where those that stood are not what the record says, and so never where its file was
+-- so do the first of the chunks that stood as its own step listed them, behind a step of its own that found their record, whatever became of the file
+abbrev pub HasGivenFront : Course → ℕ → List Call → GetTask → List ℕ → Type 0
+HasGivenFront c i calls g bytes = GaveFront c i calls g bytes × ((bytes ≡ []) ⊎ HasReadFront c i calls g.at g.id bytes)
+
+-- A get that ended well gave the bytes of its file, and one that is unfinished or failed the first of them. Whatever became of the file, they are those of all
+-- chunks that stood as its own step listed them, behind a step of its own that found their record, or begin what the first of them hold. One that failed blames a chunk only where those that stood are not what the record says, and so never where its file was
 -- whole; and it says that a document breaks its grammar only of a record or a chunk that stood.
 abbrev pub GetGave : {A : Type 0} → Course → ℕ → List Call → GetTask → List ℕ → Ended A → Type 0
-GetGave c i calls g bytes ended.Unfinished = GaveFront c i calls g bytes × ((bytes ≡ []) ⊎ HasReadFront c i calls g.at g.id bytes)
+GetGave c i calls g bytes ended.Unfinished = HasGivenFront c i calls g bytes
 GetGave c i calls g bytes (ended.Gave x) = GaveFile c i calls g.at g.id bytes × HasReadAll c i calls g.at g.id bytes
-GetGave c i calls g bytes (ended.Failed e) = (BlamesChunk e.kind → NeverWhole c i calls g.at g.id × HasReadOther c i calls g.at g.id e) × (SaysBroken e.kind → HasFoundBroken c i calls g.at g.id e)
+GetGave c i calls g bytes (ended.Failed e) = (BlamesChunk e.kind → NeverWhole c i calls g.at g.id × HasReadOther c i calls g.at g.id e) × (SaysBroken e.kind → HasFoundBroken c i calls g.at g.id e) × HasGivenFront c i calls g bytes
 
 -- A put that ended well left its file whole, and one that failed none of its chunks, unless its error may leave some. However it ended, the file is whole behind the
 -- step of its record, until a step of the put removes its chunks.

@@ -17,6 +17,7 @@ pub mod Files
 pub mod Behind
 pub mod Blaming
 pub mod Headline
+pub mod Losses
 pub mod Progress
 pub mod Causes
 pub mod Owned

@@ -9,6 +9,7 @@ use Rattle.mg_server.specs.Owner.{IsOf, Owner, Passes}
 use Rattle.mg_players.specs.Causes.{sent_since}
 use Rattle.mg_players.specs.Drawing.{sent_from, supply_from}
 use Rattle.mg_players.specs.Follows.{Placing, same_place}
+use Rattle.mg_players.specs.Losses.{Part}
 use Rattle.mg_players.specs.Puts.{IsMoment, Supply}
 use Rattle.mg_players.specs.Sends.{MaySend}
 use Rattle.mg_script.specs.Plan.{Task}
@@ -117,7 +118,7 @@ pub record Goes {P : Type 0} (ticket : P → Option ℕ) (keeps : ℤ → P → 
 
 -- A job got what it needs for a turn. Nothing was sent, and one that had no ids drew them from a source, so that this holds of what it is supplied with and of its
 -- task as it is sent.
-pub record GetsReady {P : Type 0} (ticket_in : P → Option ℕ) (keeps : ℤ → P → Type 0) (does : P → Task) (plays : Knowledge P) (says : Account P) (number : P → ℕ) (comes ready : ℕ → P → ℕ → Bool → Type 0) (drew : P → Type 0) (so : Supply → Task → Type 0) (p q : P) : Type 0 where
+pub record GetsReady {P : Type 0} (ticket_in : P → Option ℕ) (keeps : ℤ → P → Type 0) (does : P → Task) (plays : Knowledge P) (says : Account P) (number : P → ℕ) (comes ready : ℕ → P → ℕ → Bool → Type 0) (drew : P → Type 0) (lost : P → Part → Type 0) (so : Supply → Task → Type 0) (p q : P) : Type 0 where
   pub ticket : ticket_in q ≡ ticket_in p
   pub holds : (wire : ℤ) → keeps wire p → keeps wire q
   pub knows : (awaited : Awaited) (calls : List Call) (o : Owner) (at : Option ℕ) → plays awaited calls p o at → plays awaited calls q o at
@@ -125,3 +126,4 @@ pub record GetsReady {P : Type 0} (ticket_in : P → Option ℕ) (keeps : ℤ �
   pub at : (calls k : ℕ) (last : Bool) → comes calls p k last → ready calls q k last
   pub tells : TellsAs does says number so p q
   pub has : drew p → drew q
+  pub lost_same : (part : Part) → lost q part → lost p part

@@ -122,12 +122,13 @@ pub record ReadsList (awaited : Awaited) (past : Past) (b : ClientBucket) (d : D
   pub waits : (sending : Sending) (ticket place : ℕ) → d.cursor.doing ≡ client.asks sending → ticket_of sending ≡ Some ticket → awaited ticket ≡ Some place → newest of_list.place of_list.replies < place
   pub alone : AloneBehind awaited past d.cursor (newest of_list.place of_list.replies)
 
--- the call heard these documents of a list of the indexes of a collection, and read it to its end
+-- the call heard these documents of a list of the indexes of a collection, and read it to its end, at which not too many batches came empty
 pub record HeardList (past : Past) (b : ClientBucket) (k : Place) (documents : List (List ℕ)) : Type 0 where
   pub cursor : ClientCursor
   pub of_list : IsOfList past b cursor
   pub is_at : of_list.at ≡ k
   pub over : cursor.id ≡ pos 0
+  pub few : last_empty of_list < most_empty
   pub all : its_documents of_list ≡ documents
 
 -- ---- the index of a collection

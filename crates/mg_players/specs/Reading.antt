@@ -1,5 +1,6 @@
 -- Why a read of a get fails: by chunks that are not what their record says, and by what does not come where its own steps were answered at once.
-use Rattle.std.specs.Prelude.{◌≡◌, ◌≢◌, ◌⊎◌, ◌<◌, ◌≤◌, ◌++◌, Contains, ℕ, suc, ℤ, pos, List, [], ◌∷◌, length, Option, Some, None, Ok, Err, slice_get, take}
+use Rattle.std.specs.Prelude.{◌≡◌, ◌≢◌, ◌⊎◌, ◌<◌, ◌≤◌, ◌+◌, ◌-◌, ◌++◌, Contains, ℕ, suc, ℤ, pos, List, [], ◌∷◌, length, Option, Some, None, Ok, Err, slice_get, take, drop}
+use Rattle.std.specs.List.{concat}
 use Rattle.mg_bson.specs.Raw.{fields}
 use Rattle.mg_bson.specs.Tree.{Fields}
 use Rattle.mg_server.specs.Calls.{HeardBy, IsOwn, Past}
@@ -19,14 +20,16 @@ use Rattle.mg_ops.specs.Cursors.{Cursor, cursor_of}
 use Rattle.mg_ops.specs.Naming.{IsNamed}
 use Rattle.mg_cursor.specs.Causes.{MoreFails}
 use Rattle.mg_cursor.specs.Client as client
-use Rattle.mg_cursor.specs.Client.{ClientCursor, at_rest, holds}
+use Rattle.mg_cursor.specs.Client.{ClientCursor, HasNext, IsOver, at_rest, holds}
 use Rattle.mg_cursor.specs.Polling.{CannotAsk}
 use Rattle.mg_chunks.specs.Sizes.{chunk_count_of}
 use Rattle.mg_records.specs.FileRecords.{FileRecord}
 use Rattle.mg_gridfs.specs.Downloaded.{AreReceived, chunks_query}
 use Rattle.mg_chunks.specs.Chunks.{judged, missing_chunk}
-use Rattle.mg_gridfs.specs.Downloads.{ClientDownload, Doing, ended, idle, most_empty, reads, sizes_of, spoiled}
-use Rattle.mg_gridfs.specs.ReadCauses.{cursor_in}
+use Rattle.mg_gridfs.specs.Downloads.{ClientDownload, Doing, empty_download, ended, idle, most_empty, new_download, reads, sizes_of, spoiled}
+use Rattle.mg_gridfs.specs.ReadCauses.{HasInOrder, TakesNext, cursor_in}
+use Rattle.mg_gridfs.specs.Reads.{HandsOut, SpoilsBatch}
+use Rattle.mg_gridfs.specs.declared.polls.ReadPoll.TheVariants as read
 use Rattle.mg_players.specs.Gets.{GetTask, chunks_find, no_manner}
 use Rattle.mg_players.specs.InTurn.{AloneBehind, AreInTurn, HasSentAt, NoneBehind, empty_by, empty_held, empty_taken, newest}
 
@@ -131,9 +134,10 @@ HeardHeld past g f c = (bytes : List ℕ) → c.doing ≡ holds bytes → HeardB
 -- ---- batches that came empty
 
 -- In a call of a get as many batches came empty, one behind another up to its last command, as are too many: those of replies that the call heard to its getMores,
--- and before them that of a first reply to the list of the chunks, which was in hand.
-pub record HeardEmpty (past call : Past) (g : GetTask) (f : FileRecord) : Type 0 where
+-- and before them that of a first reply to the list of the chunks, which was in hand. It began with this download.
+pub record HeardEmpty (past call : Past) (g : GetTask) (f : FileRecord) (start : ClientDownload) : Type 0 where
   pub begun : ClientCursor
+  pub idle_so : start.doing ≡ idle begun
   pub held : HeardHeld past g f begun
   pub replies : List (ℕ × List ℕ)
   pub behind : ClientCursor
@@ -141,11 +145,42 @@ pub record HeardEmpty (past call : Past) (g : GetTask) (f : FileRecord) : Type 0
   pub last : NoneBehind call (newest 0 replies)
   pub so_many : empty_by (empty_held begun.doing) replies ≡ most_empty
 
--- What a call knows of them that began with a cursor and goes on: so many came empty, one behind another, which are not too many; and behind all replies nothing of it stands in
--- the log but its getMore on its way.
-pub record CountsRow (awaited : Awaited) (call : Past) (begun c : ClientCursor) (empty : ℕ) : Type 0 where
+-- ---- batches that were taken
+
+-- the batches of replies that were heard
+abbrev pub batches_in : List (ℕ × List ℕ) → List (List ℕ)
+batches_in [] = []
+batches_in (h ∷ more) = h.1 ∷ batches_in more
+
+-- the batch in hand
+abbrev pub hand_of : client.Doing → List (List ℕ)
+hand_of client.rests = []
+hand_of (holds bytes) = bytes ∷ []
+hand_of (client.asks sending) = []
+
+-- The batches that a call took which began and stands so, and heard these replies: the one that was in hand, unless it is so still, and those of the replies.
+abbrev pub taken_of : (begun now : client.Doing) → List (ℕ × List ℕ) → List (List ℕ)
+taken_of begun client.rests replies = hand_of begun ++ batches_in replies
+taken_of begun (holds bytes) replies = []
+taken_of begun (client.asks sending) replies = hand_of begun ++ batches_in replies
+
+-- These batches hold chunks of the file with this record, one behind another, numbered from one number on, so that another is the next; their bytes are these.
+abbrev pub HoldChunks : FileRecord → ℕ → List (List ℕ) → ℕ → List ℕ → Type 0
+HoldChunks f n [] next bytes = (next ≡ n) × (bytes ≡ [])
+HoldChunks f n (b ∷ more) next bytes = (h : HasInOrder f n b) × (rest : List ℕ) × (bytes ≡ concat h.chunks ++ rest) × HoldChunks f (n + length h.chunks) more next rest
+
+-- behind these batches a download stands so of which nothing was in hand before: the bytes of their chunks are
+pub record TakenSo (begun d : ClientDownload) (batches : List (List ℕ)) : Type 0 where
+  pub file : d.file ≡ begun.file
+  pub count : d.count ≡ begun.count
+  pub chunks_so : HoldChunks begun.file begun.taken batches d.taken d.ahead
+
+-- What a call knows of them that began with a cursor and goes on: so many came empty, one behind another, which are not too many; it took all of these; and behind all
+-- replies nothing of it stands in the log but its getMore on its way.
+pub record CountsRow (awaited : Awaited) (call : Past) (begun c : ClientCursor) (empty : ℕ) (all : List (List ℕ)) : Type 0 where
   pub replies : List (ℕ × List ℕ)
   pub heard : AreInTurn call begun 0 replies (at_rest c)
+  pub all_so : taken_of begun.doing c.doing replies ≡ all
   pub hand : (bytes : List ℕ) → c.doing ≡ holds bytes → (begun.doing ≡ holds bytes) × (replies ≡ [])
   pub counted : empty ≡ empty_taken c.doing (empty_by (empty_held begun.doing) replies)
   pub few : empty < most_empty
@@ -157,12 +192,71 @@ pub record CountsRow (awaited : Awaited) (call : Past) (begun c : ClientCursor) 
 abbrev pub SentNone : Past → Type 0
 SentNone call = (place : ℕ) → HasSentAt call place → ⊥
 
--- where a read goes on; before it begins its call has sent nothing
-abbrev pub CountsIn : Awaited → (past call : Past) → GetTask → FileRecord → Doing → Type 0
-CountsIn awaited past call g f (idle cursor) = SentNone call
-CountsIn awaited past call g f (reads cursor missing empty) = (begun : ClientCursor) × HeardHeld past g f begun × CountsRow awaited call begun cursor empty
-CountsIn awaited past call g f ended = Unit {0}
-CountsIn awaited past call g f spoiled = Unit {0}
+-- A call that goes on began with this download, of which nothing was in hand, and took batches since; as many bytes are missing as its room has more than are in
+-- hand.
+pub record TakesRow (awaited : Awaited) (call : Past) (room : ℕ) (begun d : ClientDownload) (c : ClientCursor) (missing empty : ℕ) : Type 0 where
+  pub cursor : ClientCursor
+  pub idle_so : begun.doing ≡ idle cursor
+  pub none_ahead : begun.ahead ≡ []
+  pub all : List (List ℕ)
+  pub row : CountsRow awaited call cursor c empty all
+  pub taken_so : TakenSo begun d all
+  pub missing_is : missing ≡ room - length d.ahead
+
+-- Where a call stands that began with this download and reads into so much room: it goes on so; before it begins, and behind the end, it has sent nothing. It is not
+-- one that failed.
+abbrev pub GoesOn : Awaited → (past call : Past) → GetTask → ℕ → (begun d : ClientDownload) → Doing → Type 0
+GoesOn awaited past call g room begun d (idle cursor) = (begun ≡ d) × SentNone call
+GoesOn awaited past call g room begun d (reads cursor missing empty) = (t : TakesRow awaited call room begun d cursor missing empty) × HeardHeld past g d.file t.cursor
+GoesOn awaited past call g room begun d ended = (begun ≡ d) × SentNone call
+GoesOn awaited past call g room begun d spoiled = ⊥
+
+-- ---- what a call gave
+
+-- A call that began with this cursor heard replies to its getMores alone, one behind another, and took these batches; its cursor rests so behind them.
+pub record TookThese (call : Past) (begun behind : ClientCursor) (all : List (List ℕ)) : Type 0 where
+  pub replies : List (ℕ × List ℕ)
+  pub heard : AreInTurn call begun 0 replies (at_rest behind)
+  pub all_so : taken_of begun.doing client.rests replies ≡ all
+  pub last : NoneBehind call (newest 0 replies)
+
+-- A call that reads into so much room gave these bytes, and took its download from one state to another: some were in hand, and it sent nothing; or it took
+-- batches until as many were as it has room for, or the cursor had ended.
+pub data GivesBy (call : Past) (room : ℕ) (d d' : ClientDownload) (given : List ℕ) : Type 0 where
+  of_hand : (cursor : ClientCursor) → d.doing ≡ idle cursor → d.ahead ≢ [] → SentNone call → HandsOut room cursor d d' given (read.Read (length given)) → GivesBy call room d d' given
+  of_batches : (cursor behind : ClientCursor) (left : ClientDownload) (all : List (List ℕ)) → d.doing ≡ idle cursor → d.ahead ≡ [] → TookThese call cursor behind all → TakenSo d left all → (room ≤ length left.ahead) ⊎ IsOver behind
+      → HandsOut room behind left d' given (read.Read (length given)) → GivesBy call room d d' given
+
+-- The last call of a get that ended well gave no byte: its download had ended, and it sent nothing; or it brought it to its end.
+pub data GivesNone (call : Past) (room : ℕ) (d : ClientDownload) : Type 0 where
+  had_ended : d.doing ≡ ended → SentNone call → GivesNone call room d
+  ends_so : (after : ClientDownload) → after.doing ≡ ended → GivesBy call room d after [] → GivesNone call room d
+
+-- How far a call came that failed, which began with this download: it took nothing, or these batches of the replies that it heard. There its cursor stood so.
+pub data CameTo (call : Past) (begun d : ClientDownload) (c : ClientCursor) : Type 0 where
+  as_begun : begun ≡ d → begun.doing ≡ idle c → CameTo call begun d c
+  by_batches : (cursor : ClientCursor) (all : List (List ℕ)) (replies : List (ℕ × List ℕ)) → begun.doing ≡ idle cursor → begun.ahead ≡ [] → AreInTurn call cursor 0 replies (at_rest c) → taken_of cursor.doing c.doing replies ≡ all → TakenSo begun d all → CameTo call begun d c
+
+-- What ended it there: memory ran out; fewer bytes were in hand than it has room for, and no getMore was built, or it brought no batch, or the next batch was not
+-- taken; or no more were in hand, the cursor had no next, and so many chunks came, which are not as many as the record says.
+pub data BreaksAt (call : Past) (room : ℕ) (d : ClientDownload) (c : ClientCursor) (e : Error) : Type 0 where
+  memory_out : e.kind ≡ kind.OutOfMemory → BreaksAt call room d c e
+  none_built : length d.ahead < room → CannotAsk c None e → BreaksAt call room d c e
+  none_brought : length d.ahead < room → MoreFails call c e → BreaksAt call room d c e
+  not_taken : length d.ahead < room → (bytes : List ℕ) (behind : ClientCursor) → TakesNext call c bytes behind → (empty : ℕ) → SpoilsBatch empty bytes d e → BreaksAt call room d c e
+  other_count : drop room d.ahead ≡ [] → (HasNext c → ⊥) → d.taken ≢ d.count → e ≡ missing_chunk d.taken → BreaksAt call room d c e
+
+-- How a call failed that began with this download and reads into so much room.
+pub record FailsSo (call : Past) (room : ℕ) (begun : ClientDownload) (e : Error) : Type 0 where
+  pub left : ClientDownload
+  pub cursor : ClientCursor
+  pub came : CameTo call begun left cursor
+  pub breaks : BreaksAt call room left cursor e
+
+-- a download as its opening left it: the reply to its list is in hand; or its file has no bytes
+pub data IsBegun (past : Past) (g : GetTask) (d : ClientDownload) : Type 0 where
+  has_list : (cursor : ClientCursor) (bytes : List ℕ) → d ≡ new_download d.file d.count cursor → cursor.doing ≡ holds bytes → IsListOf past g d.file cursor bytes → IsBegun past g d
+  is_empty : d.file.length ≡ 0 → d ≡ empty_download d.file → IsBegun past g d
 
 -- ---- why a read fails
 

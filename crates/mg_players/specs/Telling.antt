@@ -1,5 +1,5 @@
 -- What a job can tell, turn by turn, of what its answers are caused by.
-use Rattle.std.specs.Prelude.{◌≡◌, ◌↔◌, ◌⊎◌, ◌+◌, ◌≤◌, ◌++◌, IsTrue, Bool, true, ℕ, suc, ℤ, List, [], length, Option, Some, None, slice_get, ◌<◌}
+use Rattle.std.specs.Prelude.{◌≡◌, ◌≢◌, ◌↔◌, ◌⊎◌, ◌+◌, ◌≤◌, ◌++◌, IsTrue, Bool, true, ℕ, suc, ℤ, List, [], length, Option, Some, None, Ok, slice_get, ◌<◌}
 use Rattle.std.specs.List.{concat, sum_by}
 use Rattle.mg_bson.specs.Tree.{Fields, Tree}
 use Rattle.mg_server.specs.Calls.{Past, past_of, AddsOnly}
@@ -19,9 +19,10 @@ use Rattle.mg_change.specs.OpeningCauses.{StreamOpened, OpeningFails, OpensSoFar
 use Rattle.mg_change.specs.OpeningView.{IsPlainOpening, opening_of}
 use Rattle.mg_change.specs.Sent.{ending_places, resuming_places}
 use Rattle.mg_change.specs.StreamView.{stream_of}
-use Rattle.mg_players.specs.Causes.{Answered, AreInLog, OpeningAsks, ClosedBy, Course, EndsBy, EndsSent, FallsAt, KillsLast, AllSentIn, SentNoneBehind, commands_at, course, places_of, sent_at, PutEndsBy, HasWritten, AllWritten}
-use Rattle.mg_change.specs.Calling.{OpensAt, OpensFar, SentBy}
+use Rattle.mg_players.specs.Causes.{Answered, AreInLog, OpeningAsks, ClosedBy, Course, EndsBy, EndsSent, FallsAt, FindsAt, KillsLast, AllSentIn, SentNoneBehind, commands_at, course, places_of, sent_at, PutEndsBy, HasWritten, AllWritten, HasRead}
+use Rattle.mg_change.specs.Calling.{IsRequestAt, OpensAt, OpensFar, RequestFar, SentBy}
 use Rattle.mg_players.specs.Asking.{AllAskOn, DownloadLast, FindingLast}
+use Rattle.mg_players.specs.Files.{FirstHold, ListsSo}
 use Rattle.mg_players.specs.Follows.{FollowTurns, HasGiven, IsArgsFor, Placing, filter_in}
 use Rattle.mg_gridfs.specs.Buckets.{IsSize}
 use Rattle.mg_gridfs.specs.Causes.{IsUploading}
@@ -29,18 +30,19 @@ use Rattle.mg_gridfs.specs.Storing.{KnowsUpload}
 use Rattle.mg_gridfs.specs.Uploads.{ClientUpload, RestsBy, idle, upload_error}
 use Rattle.mg_gridfs.specs.UploadView.{upload_of}
 use Rattle.mg_players.specs.Buckets.{plain_bucket}
-use Rattle.mg_players.specs.Gets.{AsksPlainly, GetKnowsAt, GetTask, IsFindAt, IsGetCommand, IsOpeningFor, no_room, sought}
+use Rattle.mg_players.specs.Gets.{AsksPlainly, GetKnowsAt, GetTask, IsFindAt, IsGetCommand, IsOpeningFor, chunks_find, no_room, record_find, room_of, sought}
 use Rattle.mg_players.specs.Headline.{AllKnow, GetPlays, Plays, task_of}
 use Rattle.mg_cursor.specs.Client.{ClientCursor}
 use Rattle.mg_gridfs.specs.Downloaded.{KnowsDownload}
 use Rattle.mg_gridfs.specs.Downloads as downloads
-use Rattle.mg_gridfs.specs.Downloads.{ClientDownload, IsSoundDownload}
+use Rattle.mg_gridfs.specs.Downloads.{ClientDownload, IsSoundDownload, download_ticket}
 use Rattle.mg_gridfs.specs.DownloadView.{IsDownload, download_of, finding_of}
 use Rattle.mg_gridfs.specs.Findings as findings
-use Rattle.mg_gridfs.specs.Findings.{IsSoundFinding, Looking}
+use Rattle.mg_gridfs.specs.Findings.{IsSoundFinding, Looking, finding_ticket}
 use Rattle.mg_gridfs.specs.ReadCauses as files
 use Rattle.mg_gridfs.specs.ReadCauses.{HeardRecord, IsFetching, ReadFails, cursor_in}
 use Rattle.mg_server.specs.Owner.{IsOf}
+use Rattle.mg_chunks.specs.Sizes.{chunk_count_of}
 use Rattle.mg_records.specs.FileRecords.{FileRecord}
 use Rattle.mg_ops.specs.InsertCauses.{HasSent, IsInsertOf}
 use Rattle.mg_ops.specs.InsertSends.{HasSentPieces}
@@ -51,13 +53,14 @@ use Rattle.mg_players.specs.Drawing.{first_id, sent_documents, sent_from, supply
 use Rattle.mg_players.specs.Kept.{ids_left}
 use Rattle.mg_players.specs.Laying.{DoingLays, EndLays}
 use Rattle.mg_players.specs.Owned.{AllOwn}
-use Rattle.mg_players.specs.Playing.{job_ticket}
+use Rattle.mg_players.specs.Losses.{EndLost}
+use Rattle.mg_players.specs.Playing.{end_of, job_ticket}
 use Rattle.mg_players.specs.Plays as words
 use Rattle.mg_players.specs.Plays.{Extends, Moves, MovesTo, Places, all_places}
 use Rattle.mg_players.specs.PutFailures.{AnswersPut, PutReads}
 use Rattle.mg_players.specs.PutSends.{DoingSent, PutEndsSent, Reaches}
 use Rattle.mg_players.specs.Puts.{BegunFor, CutBy, DoingSupplied, NeedsFull, PutTask, Supply, put_aim, put_bucket, taken_in, total, writes}
-use Rattle.mg_players.specs.Reading.{CountsIn, EndsAsListed, HeardEmpty, HeardHeld, ListsIts, ListsOther, ReadStops}
+use Rattle.mg_players.specs.Reading.{EndsAsListed, FailsSo, GivesNone, GoesOn, HeardEmpty, HeardHeld, ListsIts, ListsOther, ReadStops}
 use Rattle.mg_players.specs.Sends.{IsCommandOf, MaySend, PutFlies, SendsOnly}
 use Rattle.mg_ops.specs.Underway.{HasInserted}
 use Rattle.mg_script.specs.declared.outcome.Answer.{Answer}
@@ -206,6 +209,7 @@ StageSends log log' at sent stage stage' = (commands : List Fields) → StageSen
 pub record TellsNew (ids : ℕ → List ℕ) (at : Space) (documents : List Fields) (stage : InsertStage) : Type 0 where
   pub tells : (awaited : Awaited) (past : Past) → InsertTells awaited past at (with_ids ids 0 documents) stage
   pub sent : StageSent at (with_ids ids 0 documents) [] stage
+  pub unlost : EndLost (end_of stage) → ⊥
 
 -- one that had no ids drew them so; any other is as it was
 abbrev pub TellsOn : (ℕ → List ℕ) → Space → List Fields → InsertStage → InsertStage → Type 0
@@ -238,9 +242,19 @@ finding_places findings.starts = 5
 finding_places (findings.finds sending) = suc (suc (resuming_places sending.stage))
 finding_places (findings.lists file count sending) = resuming_places sending.stage
 
+-- what goes on has sent nothing where it holds no ticket
+abbrev pub SentIfHeld : Option ℕ → List ℕ → Type 0
+SentIfHeld ticket now = ticket ≡ None → now ≡ []
+
 -- an opening that has come so far sent its finds at these places
 abbrev pub FindsSoFar : List Call → GetTask → List ℕ → Looking → Type 0
 FindsSoFar calls g places doing = FallsAt (IsFindAt g (found_in doing)) calls 5 places (finding_places doing)
+
+-- how far its requests have come, each of which is sent once more only behind a failure
+abbrev pub FindsFar : Awaited → List Call → GetTask → List ℕ → Looking → Type 0
+FindsFar awaited calls g places findings.starts = places ≡ []
+FindsFar awaited calls g places (findings.finds sending) = RequestFar awaited calls (record_find g) true sending.stage places
+FindsFar awaited calls g places (findings.lists file count sending) = (finding listing : List ℕ) × (places ≡ finding ++ listing) × IsRequestAt calls (record_find g) true finding × (file.length ≢ 0) × RequestFar awaited calls (chunks_find g file.id) true sending.stage listing
 
 -- The opening sent at the places told of it: it heard this record, and listed the chunks of its file by the call at this place. What was sent behind it asks for
 -- more of them, each by the cursor that the reply to the command before told. Its collections have names that may be.
@@ -249,21 +263,39 @@ pub record TellsGetOpened (calls : List Call) (wire : ℤ) (q : Places) (g : Get
   pub heard : HeardRecord (sent_at q.opened calls wire) (plain_bucket g.at) g.id (Some f)
   pub listed : (place : ℕ) → at ≡ Some place → IsOf q.opened place
   pub finds : FallsAt (IsFindAt g (Some f)) calls 5 q.opened 1
+  pub sends : FindsAt calls g (Some f) q.opened
   pub more : AllAskOn calls (all_places q) (concat q.owns ++ q.now)
 
--- what one sent that had so many calls behind it: what goes on in its opening; or its opening, and what is behind that
-pub data TellsAsked (calls : List Call) (wire : ℤ) (q : Places) (g : GetTask) (done : ℕ) : Type 0 where
-  in_opening : TellsNoCall q → done ≡ 0 → (found : Option FileRecord) → OpeningAsks calls wire g found q.now → TellsAsked calls wire q g done
-  behind_it : (f : FileRecord) (at : Option ℕ) → TellsGetOpened calls wire q g f at → suc (length q.owns) ≡ done → TellsAsked calls wire q g done
+-- these bytes begin what the first of the chunks hold that stood as the call at this place listed them, which the record counts
+pub record HasFront (calls : List Call) (g : GetTask) (f : FileRecord) (bytes : List ℕ) (at : Option ℕ) : Type 0 where
+  pub listed : ℕ
+  pub here : at ≡ Some listed
+  pub count : ℕ
+  pub counted : chunk_count_of f.length f.chunk_size ≡ Ok count
+  pub more : List ℕ
+  pub lists : ListsSo calls g.at f listed (FirstHold f (bytes ++ more))
+
+-- All of its bytes came so from what its opening heard, and its call that goes on stands so.
+pub record ReadsSoFar (awaited : Awaited) (calls : List Call) (wire : ℤ) (q : Places) (g : GetTask) (d : ClientDownload) (bytes : List ℕ) : Type 0 where
+  pub last : ClientDownload
+  pub so_far : HasRead calls wire g d.file q.opened q.owns bytes last
+  pub goes : GoesOn awaited (sent_at (all_places q) calls wire) (sent_at q.now calls wire) g (room_of g.read) last d d.doing
+
+-- What one sent that gave these bytes and had so many calls behind it: what goes on in its opening; or its opening, and what is behind that. The bytes are none, or
+-- such a front.
+pub data TellsAsked (calls : List Call) (wire : ℤ) (q : Places) (g : GetTask) (bytes : List ℕ) (done : ℕ) : Type 0 where
+  in_opening : TellsNoCall q → done ≡ 0 → bytes ≡ [] → (found : Option FileRecord) → OpeningAsks calls wire g found q.now → TellsAsked calls wire q g bytes done
+  behind_it : (f : FileRecord) (at : Option ℕ) → TellsGetOpened calls wire q g f at → suc (length q.owns) ≡ done → (bytes ≡ []) ⊎ HasFront calls g f bytes at → (last : ClientDownload) → HasRead calls wire g f q.opened q.owns bytes last → TellsAsked calls wire q g bytes done
 
 -- how a get failed that had so many calls behind it
-pub data TellsGetFails (calls : List Call) (wire : ℤ) (q : Places) (g : GetTask) (done : ℕ) (e : Error) : Type 0 where
-  out_of_memory : e.kind ≡ kind.OutOfMemory → TellsGetFails calls wire q g done e
-  has_no_room : g.read ≡ 0 → e ≡ no_room → TellsGetFails calls wire q g done e
-  not_opened : 0 < g.read → TellsNoCall q → done ≡ 0 → files.OpeningFails (sent_at q.now calls wire) (plain_bucket g.at) g.id e → TellsGetFails calls wire q g done e
+pub data TellsGetFails (calls : List Call) (wire : ℤ) (q : Places) (g : GetTask) (bytes : List ℕ) (done : ℕ) (e : Error) : Type 0 where
+  out_of_memory : e.kind ≡ kind.OutOfMemory → TellsGetFails calls wire q g bytes done e
+  has_no_room : g.read ≡ 0 → e ≡ no_room → TellsGetFails calls wire q g bytes done e
+  not_opened : 0 < g.read → TellsNoCall q → done ≡ 0 → files.OpeningFails (sent_at q.now calls wire) (plain_bucket g.at) g.id e → TellsGetFails calls wire q g bytes done e
   not_read : 0 < g.read → 1 ≤ done → (d : ClientDownload) (at : Option ℕ) → TellsGetOpened calls wire q g d.file at → (cursor : ClientCursor) → ReadFails (sent_at q.now calls wire) d cursor e
       → cursor_in d.doing ≡ Some cursor → IsSoundDownload d → AsksPlainly d → suc (length q.owns) ≡ done
-      → (listed : ℕ) → IsOf q.opened listed → HeardHeld (sent_at (all_places q) calls wire) g d.file cursor → ReadStops (sent_at (all_places q) calls wire) (HeardEmpty (sent_at (all_places q) calls wire) (sent_at q.now calls wire) g d.file) (ListsOther calls g.at d.file listed e) e → TellsGetFails calls wire q g done e
+      → (last : ClientDownload) (listed : ℕ) → IsOf q.opened listed → HeardHeld (sent_at (all_places q) calls wire) g d.file cursor → ReadStops (sent_at (all_places q) calls wire) (HeardEmpty (sent_at (all_places q) calls wire) (sent_at q.now calls wire) g d.file last) (ListsOther calls g.at d.file listed e) e
+      → HasRead calls wire g d.file q.opened q.owns bytes last → FailsSo (sent_at q.now calls wire) (room_of g.read) last e → TellsGetFails calls wire q g bytes done e
 
 -- All bytes of the file with this record were given, and these are they: its download has ended.
 pub record HasGivenAll (awaited : Awaited) (calls : List Call) (g : GetTask) (f : FileRecord) (bytes : List ℕ) (at : Option ℕ) : Type 0 where
@@ -278,14 +310,15 @@ pub record HasGivenAll (awaited : Awaited) (calls : List Call) (g : GetTask) (f 
 abbrev pub TellsGetEnd : {A : Type 0} → Awaited → List Call → ℤ → Places → GetTask → List ℕ → ℕ → Option ℕ → Ended A → Type 0
 TellsGetEnd awaited calls wire q g bytes done at ended.Unfinished = Unit {0}
 TellsGetEnd awaited calls wire q g bytes done at (ended.Gave x) = (0 < g.read) × (f : FileRecord) × TellsGetOpened calls wire q g f at × (suc (length q.owns) ≡ done) × HasGivenAll awaited calls g f bytes at
-TellsGetEnd awaited calls wire q g bytes done at (ended.Failed e) = TellsGetFails calls wire q g done e × TellsAsked calls wire q g done
+    × (last : ClientDownload) × HasRead calls wire g f q.opened q.owns bytes last × GivesNone (sent_at q.now calls wire) (room_of g.read) last
+TellsGetEnd awaited calls wire q g bytes done at (ended.Failed e) = TellsGetFails calls wire q g bytes done e × TellsAsked calls wire q g bytes done
 
 -- what a get that gave these bytes can tell at each stage, where the call at this place listed its chunks
 abbrev pub GetTells : Awaited → List Call → ℤ → Places → GetTask → GetStage → List ℕ → ℕ → Option ℕ → Type 0
 GetTells awaited calls wire q g gets.Unsent bytes done at = TellsNoCall q × (q.now ≡ [])
-GetTells awaited calls wire q g (gets.Opens opening) bytes done at = TellsNoCall q × IsOpeningFor g (finding_of opening) × IsSoundFinding (finding_of opening) × files.IsOpening awaited (sent_at q.now calls wire) (finding_of opening) × FindsSoFar calls g q.now (finding_of opening).doing × FindingLast awaited (λ (n : ℕ). IsOf q.now n) (finding_of opening).doing
+GetTells awaited calls wire q g (gets.Opens opening) bytes done at = TellsNoCall q × IsOpeningFor g (finding_of opening) × IsSoundFinding (finding_of opening) × files.IsOpening awaited (sent_at q.now calls wire) (finding_of opening) × FindsSoFar calls g q.now (finding_of opening).doing × FindingLast awaited (λ (n : ℕ). IsOf q.now n) (finding_of opening).doing × SentIfHeld (finding_ticket (finding_of opening)) q.now × FindsFar awaited calls g q.now (finding_of opening).doing
 GetTells awaited calls wire q g (gets.Reads download room) bytes done at = TellsGetOpened calls wire q g (download_of download).file at × (suc (length q.owns) ≡ done) × IsFetching awaited (sent_at q.now calls wire) (download_of download) × IsDownload download × AsksPlainly (download_of download) × ListsIts (sent_at (all_places q) calls wire) g (download_of download) × DownloadLast awaited calls (λ (n : ℕ). IsOf (all_places q) n) (download_of download)
-    × CountsIn awaited (sent_at (all_places q) calls wire) (sent_at q.now calls wire) g (download_of download).file (download_of download).doing × EndsAsListed calls g.at (download_of download) bytes at
+    × ReadsSoFar awaited calls wire q g (download_of download) bytes × EndsAsListed calls g.at (download_of download) bytes at × SentIfHeld (download_ticket (download_of download)) q.now
 GetTells awaited calls wire q g (gets.Ended end) bytes done at = TellsGetEnd awaited calls wire q g bytes done at end
 
 -- what a get tells behind a turn, and whether it sent what it may

@@ -11,6 +11,7 @@ ghost use Rattle.mg_change.specs.StreamView.{IsPlainStream, OwnsToken, stream_of
 ghost use Rattle.mg_ops.specs.Naming.{start_in};
 ghost use Rattle.mg_script.specs.Plan.{begin};
 ghost use Rattle.mg_players.specs.Follows.{FollowTurns, HasNothing, IsAnswer, IsArgsOf, IsUnfinished, all_changes, begun_options, same_place, stages_of, start_of, token_at};
+ghost use Rattle.mg_players.specs.Losses.{FollowLoses};
 ghost use Rattle.mg_players.specs.Playing.{HasRoom, IsSameFollow, StageHolds, stage_ticket};
 ghost use Rattle.mg_players.specs.Progress.{CloseGoes, FollowAt, FollowGoes, RestGoes, came};
 ghost use Rattle.mg_players.specs.Telling.{FollowGoesOn, FollowTells, IsWatchArgs, RestTells, kept};
@@ -178,6 +179,7 @@ impl<'a> FollowPlayer<'a> {
         ensures holds { StageHolds result }
         ensures turned { FollowGoesOn (L.awaited link.old) (L.awaited link.new) (L.log link.old) (L.log link.new) (L.wire link.old) Stage.Unopened self.old result self.new }
         ensures watched { self.new.watched ≡ self.old.watched }
+        ensures lost { FollowLoses (L.faults link.old) (L.faults link.new) (L.pends link.old) (L.pends link.new) self.old self.new }
         ensures comes { FollowGoes (L.pends link.old) (L.pends link.new) Stage.Unopened (came self.old) result (came self.new) }
         ensures later { Later (L.faults link.old) (L.faults link.new) (L.pends link.old) (L.pends link.new)
             (L.wire link.old) (L.wire link.new) (L.prompt link.old) (L.prompt link.new) }
@@ -198,6 +200,7 @@ impl<'a> FollowPlayer<'a> {
         ensures holds { StageHolds result }
         ensures turned { FollowGoesOn (L.awaited link.old) (L.awaited link.new) (L.log link.old) (L.log link.new) (L.wire link.old) (Stage.Opens opening) self.old result self.new }
         ensures watched { self.new.watched ≡ self.old.watched }
+        ensures lost { FollowLoses (L.faults link.old) (L.faults link.new) (L.pends link.old) (L.pends link.new) self.old self.new }
         ensures comes { FollowGoes (L.pends link.old) (L.pends link.new) (Stage.Opens opening) (came self.old) result (came self.new) }
         ensures later { Later (L.faults link.old) (L.faults link.new) (L.pends link.old) (L.pends link.new)
             (L.wire link.old) (L.wire link.new) (L.prompt link.old) (L.prompt link.new) }
@@ -227,6 +230,7 @@ impl<'a> FollowPlayer<'a> {
         ensures turned { FollowTurns (L.awaited link.old) (L.awaited link.new) (L.log link.old) (L.log link.new) (Stage.Open stream) self.old result self.new same_place }
         ensures told { RestTells (L.awaited link.new) (L.log link.old) (L.log link.new) (L.wire link.old) (stream_of stream) (kept self.old) result (kept self.new) }
         ensures watched { self.new.watched ≡ self.old.watched }
+        ensures lost { FollowLoses (L.faults link.old) (L.faults link.new) (L.pends link.old) (L.pends link.new) self.old self.new }
         ensures comes { RestGoes (L.pends link.old) (L.pends link.new) (came self.old) result (came self.new) }
         ensures later { Later (L.faults link.old) (L.faults link.new) (L.pends link.old) (L.pends link.new)
             (L.wire link.old) (L.wire link.new) (L.prompt link.old) (L.prompt link.new) }
@@ -250,6 +254,7 @@ impl<'a> FollowPlayer<'a> {
         ensures turned { FollowTurns (L.awaited link.old) (L.awaited link.new) (L.log link.old) (L.log link.new) (Stage.Open stream) self.old result self.new same_place }
         ensures told { FollowTells (L.awaited link.old) (L.awaited link.new) (L.log link.old) (L.log link.new) (L.wire link.old) (Stage.Open stream) (kept self.old) result (kept self.new) same_place }
         ensures watched { self.new.watched ≡ self.old.watched }
+        ensures lost { FollowLoses (L.faults link.old) (L.faults link.new) (L.pends link.old) (L.pends link.new) self.old self.new }
         ensures comes { FollowGoes (L.pends link.old) (L.pends link.new) (Stage.Open stream) (came self.old) result (came self.new) }
         ensures later { Later (L.faults link.old) (L.faults link.new) (L.pends link.old) (L.pends link.new)
             (L.wire link.old) (L.wire link.new) (L.prompt link.old) (L.prompt link.new) }
@@ -288,6 +293,7 @@ impl<'a> FollowPlayer<'a> {
         ensures turned { FollowTurns (L.awaited link.old) (L.awaited link.new) (L.log link.old) (L.log link.new) (Stage.Closes closing) self.old result self.new same_place }
         ensures told { FollowTells (L.awaited link.old) (L.awaited link.new) (L.log link.old) (L.log link.new) (L.wire link.old) (Stage.Closes closing) (kept self.old) result (kept self.new) same_place }
         ensures watched { self.new.watched ≡ self.old.watched }
+        ensures lost { FollowLoses (L.faults link.old) (L.faults link.new) (L.pends link.old) (L.pends link.new) self.old self.new }
         ensures comes { CloseGoes (L.pends link.old) (L.pends link.new) (came self.old) result (came self.new) }
         ensures later { Later (L.faults link.old) (L.faults link.new) (L.pends link.old) (L.pends link.new)
             (L.wire link.old) (L.wire link.new) (L.prompt link.old) (L.prompt link.new) }
@@ -311,6 +317,7 @@ impl<'a> Kind for FollowPlayer<'a> {
     ghost use Rattle.mg_script.specs.declared.outcome.Outcome.TheVariants as outcomes;
     ghost use Rattle.mg_players.specs.Follows.{token_at};
     ghost use Rattle.mg_players.specs.Headline.{FollowPlays, follow_task};
+    ghost use Rattle.mg_players.specs.Losses.{FollowLost};
     ghost use Rattle.mg_players.specs.Playing.{HasRoom, IsSameFollow, StageHolds, follow_ended, stage_ticket};
     ghost use Rattle.mg_players.specs.Progress.{FollowAt, came};
     ghost use Rattle.mg_players.specs.Telling.{FollowSays, kept, number};
@@ -342,6 +349,8 @@ impl<'a> Kind for FollowPlayer<'a> {
     ghost has_ids = { λ p. Unit {0} };
 
     ghost is_same = { IsSameFollow };
+
+    ghost says_lost = { λ p. FollowLost p.opened p.answers.items p.closed };
 
     ghost gives = { λ p r. r ≡ outcomes.Follow p.opened p.answers (token_at p.stage p.token) p.alive p.closed };
 

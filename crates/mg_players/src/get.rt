@@ -2,12 +2,14 @@
 ghost use Rattle.std.specs.Prelude.{◌≡◌, ◌+◌, ◌<◌, ◌≤◌, [], IfErr, IfOk, None, false, length};
 ghost use Rattle.mg_link.specs.Acts.{IsOut, Tickets};
 ghost use Rattle.mg_link.specs.Errors.{plain};
+ghost use Rattle.mg_link.specs.Causes.{Rose};
 ghost use Rattle.mg_link.specs.Link.{Later};
 ghost use Rattle.mg_link.specs.declared.error.ErrorKind.TheVariants as kinds;
 ghost use Rattle.mg_gridfs.specs.Downloads.{download_ticket};
 ghost use Rattle.mg_gridfs.specs.DownloadView.{IsDownload, download_of, finding_of, ticket_in};
 ghost use Rattle.mg_gridfs.specs.Findings.{IsSoundFinding, finding_ticket, starts};
 ghost use Rattle.mg_players.specs.Gets.{FewCalls, GetStageHolds, IsOpeningFor, KeepsRead, OpensAs, done_behind, get_end, gets_ticket, room_of, sought};
+ghost use Rattle.mg_players.specs.Losses.{EndLost};
 ghost use Rattle.mg_players.specs.Progress.{GetAt, GetGoes};
 ghost use Rattle.mg_players.specs.Telling.{GetTurns};
 
@@ -152,6 +154,7 @@ impl<'a> GetPlayer<'a> {
         ensures holds { GetStageHolds self.old.what.read result }
         ensures turned { GetTurns (L.awaited link.old) (L.awaited link.new) (L.log link.old) (L.log link.new) (L.wire link.old) (record self.old { stage = GetStage.Unsent }) (record self.new { stage = result }) }
         ensures what { self.new.what ≡ self.old.what }
+        ensures lost { EndLost (get_end result) → Rose (L.faults link.old) (L.faults link.new) }
         ensures comes { GetGoes (L.pends link.old) (L.pends link.new) GetStage.Unsent (length self.old.bytes.items) self.old.done result (length self.new.bytes.items) self.new.done self.old.what.read }
         ensures few { FewCalls result (length self.new.bytes.items) self.new.done }
         ensures later { Later (L.faults link.old) (L.faults link.new) (L.pends link.old) (L.pends link.new)
@@ -181,6 +184,7 @@ impl<'a> GetPlayer<'a> {
         ensures holds { GetStageHolds self.old.what.read result }
         ensures turned { GetTurns (L.awaited link.old) (L.awaited link.new) (L.log link.old) (L.log link.new) (L.wire link.old) (record self.old { stage = GetStage.Opens opening }) (record self.new { stage = result }) }
         ensures what { self.new.what ≡ self.old.what }
+        ensures lost { EndLost (get_end result) → Rose (L.faults link.old) (L.faults link.new) }
         ensures comes { GetGoes (L.pends link.old) (L.pends link.new) (GetStage.Opens opening) (length self.old.bytes.items) self.old.done result (length self.new.bytes.items) self.new.done self.old.what.read }
         ensures few { FewCalls result (length self.new.bytes.items) self.new.done }
         ensures later { Later (L.faults link.old) (L.faults link.new) (L.pends link.old) (L.pends link.new)
@@ -230,6 +234,7 @@ impl<'a> GetPlayer<'a> {
         ensures holds { GetStageHolds self.old.what.read result }
         ensures turned { GetTurns (L.awaited link.old) (L.awaited link.new) (L.log link.old) (L.log link.new) (L.wire link.old) (record self.old { stage = GetStage.Reads download room }) (record self.new { stage = result }) }
         ensures what { self.new.what ≡ self.old.what }
+        ensures lost { EndLost (get_end result) → Rose (L.faults link.old) (L.faults link.new) }
         ensures comes { GetGoes (L.pends link.old) (L.pends link.new) (GetStage.Reads download room) (length self.old.bytes.items) self.old.done result (length self.new.bytes.items) self.new.done self.old.what.read }
         ensures few { FewCalls result (length self.new.bytes.items) self.new.done }
         ensures later { Later (L.faults link.old) (L.faults link.new) (L.pends link.old) (L.pends link.new)
@@ -275,6 +280,7 @@ impl<'a> Kind for GetPlayer<'a> {
     ghost use Rattle.mg_script.specs.declared.outcome.Outcome.TheVariants as outcomes;
     ghost use Rattle.mg_players.specs.Gets.{GetHolds, get_end, get_ended, get_ticket};
     ghost use Rattle.mg_players.specs.Headline.{GetPlays, get_task};
+    ghost use Rattle.mg_players.specs.Losses.{EndingLost};
     ghost use Rattle.mg_players.specs.Progress.{GetAt};
     ghost use Rattle.mg_players.specs.Telling.{GetSays};
 
@@ -305,6 +311,8 @@ impl<'a> Kind for GetPlayer<'a> {
     ghost has_ids = { λ p. Unit {0} };
 
     ghost is_same = { λ p q. q ≡ p };
+
+    ghost says_lost = { λ p. EndingLost (get_end p.stage) };
 
     ghost gives = { λ p r. r ≡ outcomes.Get p.bytes (get_end p.stage) };
 

@@ -7,7 +7,8 @@ ghost use Rattle.mg_link.specs.Namespace.{Space, space};
 ghost use Rattle.mg_server.specs.Owner.{PassesPlain};
 ghost use Rattle.mg_ops.specs.Drawn.{AreLater, lacking};
 ghost use Rattle.mg_players.specs.Drawing.{next_draws};
-ghost use Rattle.mg_players.specs.Playing.{HasIds, IsPlainInsert, IsPlainJob, IsSameInsert, inserts_ticket, player_ticket};
+ghost use Rattle.mg_players.specs.Losses.{EndLoses};
+ghost use Rattle.mg_players.specs.Playing.{HasIds, IsPlainInsert, IsPlainJob, IsSameInsert, end_of, inserts_ticket, player_ticket};
 ghost use Rattle.mg_players.specs.Progress.{InsertAt, InsertGoes, InsertReady};
 ghost use Rattle.mg_players.specs.Telling.{InsertTurns, StageSends, TellsNew, TellsOn};
 
@@ -75,6 +76,7 @@ impl<'a> InsertStage<'a> {
         ensures told { (at : Space) (sent : List Fields) → InsertTurns (L.awaited link.old) (L.awaited link.new) (L.log link.old) (L.log link.new) (L.wire link.old) at sent self.entry result }
         ensures sends { (at : Space) (sent : List Fields) → StageSends (L.log link.old) (L.log link.new) at sent self.entry result }
         ensures has { HasIds self.entry → HasIds result }
+        ensures lost { EndLoses (L.faults link.old) (L.faults link.new) (end_of self.entry) (end_of result) }
         ensures comes { InsertGoes (L.pends link.old) (L.pends link.new) self.entry result }
         ensures later { Later (L.faults link.old) (L.faults link.new) (L.pends link.old) (L.pends link.new)
             (L.wire link.old) (L.wire link.new) (L.prompt link.old) (L.prompt link.new) }
@@ -128,6 +130,7 @@ impl<'a> Kind for InsertPlayer<'a> {
     ghost use Rattle.mg_script.specs.declared.outcome.Outcome.TheVariants as outcomes;
     ghost use Rattle.mg_players.specs.Drawing.{InsertDrawsAs, next_draws};
     ghost use Rattle.mg_players.specs.Headline.{InsertPlays, insert_task};
+    ghost use Rattle.mg_players.specs.Losses.{EndingLost};
     ghost use Rattle.mg_players.specs.Playing.{HasIds, end_of, insert_ended, player_ticket};
     ghost use Rattle.mg_players.specs.Progress.{InsertAt, InsertReady};
     ghost use Rattle.mg_players.specs.Telling.{InsertSays};
@@ -159,6 +162,8 @@ impl<'a> Kind for InsertPlayer<'a> {
     ghost has_ids = { λ p. HasIds p.stage };
 
     ghost is_same = { λ p q. q ≡ p };
+
+    ghost says_lost = { λ p. EndingLost (end_of p.stage) };
 
     ghost gives = { λ p r. r ≡ outcomes.Insert (end_of p.stage) };
 

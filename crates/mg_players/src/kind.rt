@@ -8,6 +8,7 @@ ghost use Rattle.mg_server.specs.Owner.{Owner};
 ghost use Rattle.mg_ops.specs.Drawn.{AreLater};
 ghost use Rattle.mg_script.specs.Plan.{Task};
 ghost use Rattle.mg_script.specs.declared.outcome.Outcome.{Outcome};
+ghost use Rattle.mg_players.specs.Losses.{LosesBy, Part};
 ghost use Rattle.mg_players.specs.Plays.{CanGo, GetsReady, Goes, Places, SentAt};
 ghost use Rattle.mg_players.specs.Progress.{ComesTo};
 ghost use Rattle.mg_players.specs.Puts.{Supply};
@@ -64,6 +65,9 @@ pub trait Kind: Sized + Drop {
     /// What became of it.
     ghost gives: { Self → Outcome → Type 0 };
 
+    /// This part of what it tells says that a reply was lost.
+    ghost says_lost: { Self → Part → Type 0 };
+
     /// The same job before its first turn. It stands in for one whose turn it is.
     fn anew(&self, alloc: Global) -> Self
         ensures { task result ≡ task self.now };
@@ -77,7 +81,7 @@ pub trait Kind: Sized + Drop {
 
     /// Gets what a turn needs beside the link. Nothing is sent. An error comes only where no place for an answer was found; then no id is drawn.
     fn ready<I: IdSource>(&mut self, alloc: Global, ids: &mut I) -> Result<(), Error>
-        ensures got { GetsReady ticket holds task plays tells number at ready_at has_ids (draws_as (I.ids ids.old) self.old) self.old self.new }
+        ensures got { GetsReady ticket holds task plays tells number at ready_at has_ids says_lost (draws_as (I.ids ids.old) self.old) self.old self.new }
         ensures ready { OnOk result (is_ready self.new) }
         ensures same { OnErr result (is_same self.old self.new) }
         ensures drawn { OnOk result (AreLater (I.ids ids.old) (draws self.old) (I.ids ids.new)) }
@@ -91,6 +95,8 @@ pub trait Kind: Sized + Drop {
         requires ready { is_ready self }
         ensures goes { Goes ticket holds task plays tells number has_ids (SentAt moment.millis) (L.awaited link.old) (L.awaited link.new) (L.log link.old) (L.log link.new) (L.wire link.new) self result }
         ensures comes { ComesTo (λ calls k last. ready_at calls self k last) (λ calls k last. at calls result k last) (L.pends link.old) (L.pends link.new) }
+        // It says that a reply was lost only where the link counted a fault.
+        ensures lost { LosesBy says_lost (L.faults link.old) (L.faults link.new) (L.pends link.old) (L.pends link.new) self result }
         ensures later { Later (L.faults link.old) (L.faults link.new) (L.pends link.old) (L.pends link.new)
             (L.wire link.old) (L.wire link.new) (L.prompt link.old) (L.prompt link.new) };
 

@@ -88,6 +88,7 @@ impl<'a> Player<'a> {
 impl<'a> Kind for Player<'a> {
     ghost use Rattle.mg_players.specs.Drawing.{DrawsAs, JobHasIds, turn_draws};
     ghost use Rattle.mg_players.specs.Headline.{OutcomeOf, Plays, task_of};
+    ghost use Rattle.mg_players.specs.Losses.{JobLost};
     ghost use Rattle.mg_players.specs.Playing.{job_ticket};
     ghost use Rattle.mg_players.specs.Progress.{IsAt, IsReadyAt};
     ghost use Rattle.mg_players.specs.Runs.{IsReady, IsSameJob, JobHolds, has_ended};
@@ -120,6 +121,8 @@ impl<'a> Kind for Player<'a> {
     ghost has_ids = { JobHasIds };
 
     ghost is_same = { IsSameJob };
+
+    ghost says_lost = { JobLost };
 
     ghost gives = { OutcomeOf };
 

@@ -11,6 +11,7 @@ ghost use Rattle.mg_gridfs.specs.UploadView.{IsUpload, upload_of};
 ghost use Rattle.mg_script.specs.Plan.{pieces};
 ghost use Rattle.mg_players.specs.Drawing.{put_draws};
 ghost use Rattle.mg_players.specs.Kept.{ids_left};
+ghost use Rattle.mg_players.specs.Losses.{PutLoses};
 ghost use Rattle.mg_players.specs.Progress.{PutGoes};
 ghost use Rattle.mg_players.specs.Putting.{Drew, DrewFor, Opens, OpensFrom, PutTurns};
 ghost use Rattle.mg_players.specs.Puts.{CannotOpen, HoldsUpload, IsSamePut, NamesFiles, PutHasIds, put_aim, put_end, total, where_counted, writes};
@@ -241,6 +242,7 @@ impl<'a> PutPlayer<'a> {
         requires held { IsOut (L.awaited link.old) (upload_ticket (upload_of going.upload)) }
         requires holds { HoldsUpload going.upload self.done (length (pieces self.what.pieces.now)) }
         ensures turned { PutTurns (L.awaited link.old) (L.awaited link.new) (L.log link.old) (L.log link.new) (L.wire link.old) moment.millis (record self.entry { stage = PutStage.Goes going }) result }
+        ensures lost { PutLoses (L.faults link.old) (L.faults link.new) (L.pends link.old) (L.pends link.new) (PutStage.Goes going) result.stage }
         ensures comes { PutGoes (L.pends link.old) (L.pends link.new) (record self.entry { stage = PutStage.Goes going }) result }
         ensures later { Later (L.faults link.old) (L.faults link.new) (L.pends link.old) (L.pends link.new)
             (L.wire link.old) (L.wire link.new) (L.prompt link.old) (L.prompt link.new) }
@@ -261,6 +263,7 @@ impl<'a> PutPlayer<'a> {
         requires there { slice_get (pieces self.what.pieces.now) self.done ≡ Some piece.now }
         requires count { next ≡ self.done + 1 }
         ensures turned { (moment : ℤ) → PutTurns (L.awaited link.old) (L.awaited link.new) (L.log link.old) (L.log link.new) (L.wire link.old) moment (record self.entry { stage = PutStage.Goes going }) result }
+        ensures lost { PutLoses (L.faults link.old) (L.faults link.new) (L.pends link.old) (L.pends link.new) (PutStage.Goes going) result.stage }
         ensures comes { PutGoes (L.pends link.old) (L.pends link.new) (record self.entry { stage = PutStage.Goes going }) result }
         ensures later { Later (L.faults link.old) (L.faults link.new) (L.pends link.old) (L.pends link.new)
             (L.wire link.old) (L.wire link.new) (L.prompt link.old) (L.prompt link.new) }
@@ -282,6 +285,7 @@ impl<'a> PutPlayer<'a> {
         requires holds { HoldsUpload going.upload self.done (length (pieces self.what.pieces.now)) }
         requires all { length (pieces self.what.pieces.now) ≤ self.done }
         ensures turned { PutTurns (L.awaited link.old) (L.awaited link.new) (L.log link.old) (L.log link.new) (L.wire link.old) moment.millis (record self.entry { stage = PutStage.Goes going }) result }
+        ensures lost { PutLoses (L.faults link.old) (L.faults link.new) (L.pends link.old) (L.pends link.new) (PutStage.Goes going) result.stage }
         ensures comes { PutGoes (L.pends link.old) (L.pends link.new) (record self.entry { stage = PutStage.Goes going }) result }
         ensures later { Later (L.faults link.old) (L.faults link.new) (L.pends link.old) (L.pends link.new)
             (L.wire link.old) (L.wire link.new) (L.prompt link.old) (L.prompt link.new) }
@@ -302,6 +306,7 @@ impl<'a> Kind for PutPlayer<'a> {
     ghost use Rattle.mg_script.specs.declared.outcome.Outcome.TheVariants as outcomes;
     ghost use Rattle.mg_players.specs.Drawing.{PutDrawsAs, put_draws};
     ghost use Rattle.mg_players.specs.Headline.{PutPlays, put_task};
+    ghost use Rattle.mg_players.specs.Losses.{StoringLost};
     ghost use Rattle.mg_players.specs.Progress.{PutAt, PutReady};
     ghost use Rattle.mg_players.specs.Puts.{PutHasIds, PutHolds, put_end, put_ended, put_ticket, writes};
     ghost use Rattle.mg_players.specs.Telling.{PutSays, put_number};
@@ -333,6 +338,8 @@ impl<'a> Kind for PutPlayer<'a> {
     ghost has_ids = { λ p. PutHasIds p.stage };
 
     ghost is_same = { λ p q. q ≡ p };
+
+    ghost says_lost = { λ p. StoringLost p.stage };
 
     ghost gives = { λ p r. r ≡ outcomes.Put (put_end p.stage) };
 

@@ -1,13 +1,15 @@
-use Rattle.std.proofs.Common.{subst, sym}
+use Rattle.std.proofs.Common.{◌≤◌, ℕ, ap, subst, sym}
+use Rattle.mg_link.specs.Causes.{RoseJust}
 use Rattle.mg_link.specs.Link.{Awaited}
 use Rattle.mg_turns.specs.Counts.{IsNoted, shown}
 use Rattle.mg_players.specs.Runs.{Goes}
 use Rattle.mg_players.specs.Playing.{job_ticket}
 use Rattle.mg_players.specs.Plays.{SentAt}
 use Rattle.mg_players.proofs.Advancing.{noted_once, noted_so}
+use Rattle.mg_players.proofs.Losing.{counted_lost}
 use Rattle.mg_turns.proofs.OwnTickets.{newest_of}
 use Rattle.mg_jobs.proofs.Showing.{goes_shown}
-use Rattle.mg_turns.proofs.Tallies.{is_noted}
+use Rattle.mg_turns.proofs.Tallies.{is_noted, one_at_most}
 use Rattle.mg_jobs.proofs.run.counted_since.Goals as goal
 
 pub returns-clause-goes : goal.returns-clause-goes
@@ -39,3 +41,14 @@ returns-clause-polled g c =
     let after = job_ticket c.go-player.result in
     let newest = newest_of g.B.Began.held after g.B.Began.awaited (g.L.Link.awaited c.go-player.new.link.0) g.B.Began.calls (g.L.Link.log c.go-player.new.link.0) own.0 c.into_parts-link.result.1.pended _ g.B.Began.polls (g.L.Link.polls c.go-player.new.link.0) once c.go-player.ensures.goes.tickets.held own.1 in
     rw (c.requires.held, c.requires.awaited, c.requires.calls, c.requires.polls, c.into_parts-link.ensures.link) newest
+
+pub returns-clause-lost : goal.returns-clause-lost
+returns-clause-lost g c =
+    let after = c.go-player.new.link in
+    let note = c.into_parts-link.result.1 in
+    let once = noted_once _ _ note _ _ c.new-counting.ensures.none c.into_parts-link.ensures.pended c.go-player.ensures.comes in
+    let few = subst (λ (n : ℕ). n ≤ 1) (sym once) (one_at_most note.pended) in
+    counted_lost (g.L.Link.faults c.new-counting.result.0) (g.L.Link.faults after.0) (g.L.Link.faults c.args.link) (g.L.Link.faults c.into_parts-link.result.0) c.new-counting.result.1 after.1 (g.L.Link.pends c.args.link) (g.L.Link.pends c.into_parts-link.result.0) c.args.turn.player c.go-player.result
+    (ap g.L.Link.faults c.new-counting.ensures.link) (ap g.L.Link.faults (sym c.into_parts-link.ensures.link)) c.new-counting.ensures.none few
+    (λ small. subst (λ (n : ℕ). RoseJust after.1 n (g.L.Link.pends c.into_parts-link.result.0)) (sym c.requires.pends) (subst (λ l. RoseJust after.1 g.B.Began.pends (g.L.Link.pends l)) (sym c.into_parts-link.ensures.link) (c.into_parts-link.ensures.counted.pends small)))
+    c.go-player.ensures.lost

@@ -13,6 +13,7 @@ use Rattle.mg_ops.specs.Drawn.{AreLater}
 use Rattle.mg_players.specs.Drawing.{drawn_in}
 use Rattle.mg_players.proofs.Drawing.{drawn_next, drawn_whole}
 use Rattle.mg_players.proofs.Knowing.{length_take}
+use Rattle.mg_players.proofs.Losing.{all_lose_on, none_lose}
 use Rattle.mg_jobs.proofs.Polling.{polls_next, polls_whole}
 use Rattle.mg_turns.proofs.Tallies.{loses_on, noted_more, started_more}
 use Rattle.mg_jobs.proofs.Told.{tell_next, tell_whole}
@@ -41,6 +42,7 @@ loop-number-preserved g c =
           (All-append (λ (t : Turned). t.pended ≡ false) xs (noted.0 ∷ []) (c.loop-number.invariant.quiet prompt) (All-cons (λ (t : Turned). t.pended ≡ false) noted.0 [] (noted.2.prompt (c.loop-number.invariant.later.prompt prompt).stays).1 (All-nil (λ (t : Turned). t.pended ≡ false))));
       lossless = λ prompt. loses_on _ _ _ (c.loop-number.invariant.lossless prompt) (noted.2.prompt (c.loop-number.invariant.later.prompt prompt).stays).2;
       jobs = c.turn.ensures.jobs ∙ c.loop-number.invariant.jobs;
+      lost = let so = c.loop-number.invariant in all_lose_on (g.L.Link.faults c.args.link.now) (g.L.Link.faults c.loop-number.link) (g.L.Link.faults c.turn.new.link) (g.L.Link.pends c.args.link.now) (g.L.Link.pends c.loop-number.link) (g.L.Link.pends c.turn.new.link) c.args.runner.now.players.items c.loop-number.runner.players.items c.turn.new.self.players.items so.later.faults c.turn.ensures.later.faults so.later.pends c.turn.ensures.later.pends so.lost c.turn.ensures.lost;
       none_lost = λ first was. c.turn.ensures.none_lost first (c.loop-number.invariant.none_lost first was);
       knowing = λ begun before. c.turn.ensures.knowing begun (c.loop-number.invariant.knowing begun before);
       rows = λ ts before. at_next ts c.args.order.now c.loop-number.number-index (get_or c.args.order.now c.loop-number.number-index 0) c.turn.new.self.turns.items c.turn.new.self.players.items there
@@ -90,6 +92,7 @@ loop-number-init g c =
       quiet = λ prompt. subst (λ (ts : List Turned). All (λ (t : Turned). t.pended ≡ false) ts) (sym none) (All-nil (λ (t : Turned). t.pended ≡ false));
       lossless = λ prompt calls told. (calls, told, λ place call there seen. there);
       jobs = refl;
+      lost = none_lose (g.L.Link.faults c.args.link.now) (g.L.Link.faults c.args.link.now) (g.L.Link.pends c.args.link.now) (g.L.Link.pends c.args.link.now) c.args.runner.now.players.items;
       none_lost = λ first was. was;
       knowing = λ begun knowing. knowing;
       rows = λ ts rows. subst (λ (ns : List Turned). AllAt ts [] ns c.args.runner.now.players.items) (sym none) rows;
@@ -98,3 +101,8 @@ loop-number-init g c =
       polled = λ supply begun ts its does at drawn told. subst (λ (ns : List Turned). AllPollOwn begun [] ns (g.L.Link.polls c.args.link.now) (g.L.Link.polls c.args.link.now)) (sym none) (λ calls is place. refl);
       tasks = λ ts does. does;
     }
+
+pub returns-in_err-turn-clause-lost : goal.returns-in_err-turn-clause-lost
+returns-in_err-turn-clause-lost g c =
+    let so = c.loop-number.invariant in
+    all_lose_on (g.L.Link.faults c.args.link.now) (g.L.Link.faults c.loop-number.link) (g.L.Link.faults c.turn.new.link) (g.L.Link.pends c.args.link.now) (g.L.Link.pends c.loop-number.link) (g.L.Link.pends c.turn.new.link) c.args.runner.now.players.items c.loop-number.runner.players.items c.turn.new.self.players.items so.later.faults c.turn.ensures.later.faults so.later.pends c.turn.ensures.later.pends so.lost c.turn.ensures.lost

@@ -5,6 +5,7 @@ use Rattle.mg_players.specs.Causes.{AllPollOwn}
 use Rattle.mg_turns.specs.Counts.{AreNoted, LosesNothing, StartedBy}
 use Rattle.mg_players.specs.Drawing.{HaveDrawn}
 use Rattle.mg_players.specs.Headline.{DoTasks, Knowing}
+use Rattle.mg_players.specs.Losses.{AllLoseBy}
 use Rattle.mg_script.specs.Plan.{Task}
 use Rattle.mg_players.specs.Progress.{AllAt}
 use Rattle.mg_players.specs.Puts.{IsMoment, Supply}
@@ -24,6 +25,7 @@ invariant-loop-number g l = record {
   quiet : g.L.Link.prompt l.initial.link → All (λ (t : Turned). t.pended ≡ false) l.runner.turns.items;
   lossless : g.L.Link.prompt l.initial.link → LosesNothing (g.L.Link.log l.initial.link) (g.L.Link.log l.link);
   jobs : length l.runner.players.items ≡ length l.initial.runner.players.items;
+  lost : AllLoseBy (g.L.Link.faults l.initial.link) (g.L.Link.faults l.link) (g.L.Link.pends l.initial.link) (g.L.Link.pends l.link) l.initial.runner.players.items l.runner.players.items;
   none_lost : (before : Awaited) → AreHeld before (g.L.Link.awaited l.initial.link) l.initial.runner.players.items → AreHeld before (g.L.Link.awaited l.link) l.runner.players.items;
   knowing : (begun : LogTold) → Knowing (g.L.Link.awaited l.initial.link) begun (g.L.Link.log l.initial.link) l.initial.runner.players.items → Knowing (g.L.Link.awaited l.link) begun (g.L.Link.log l.link) l.runner.players.items;
   rows : (ts : List Task) → AllAt ts [] [] l.initial.runner.players.items → AllAt ts (take l.number-index l.fn.order) l.runner.turns.items l.runner.players.items;

@@ -11,6 +11,7 @@ use Rattle.mg_jobs.proofs.Completing.{well_so}
 use Rattle.mg_jobs.proofs.Garbled.{kept_so}
 use Rattle.mg_players.specs.Drawing.{supplied}
 use Rattle.mg_players.proofs.Drawing.{drawn_first, drawn_so}
+use Rattle.mg_players.proofs.Losing.{lost_so}
 use Rattle.mg_jobs.proofs.Waiting.{wait_so}
 use Rattle.mg_jobs.proofs.Polling.{polls_so}
 use Rattle.mg_jobs.proofs.Noted.{noted_so, pended_so}
@@ -131,3 +132,8 @@ pub returns-clause-grammar : goal.returns-clause-grammar
 returns-clause-grammar g c =
     kept_so (supplied (g.I.IdSource.ids c.args.ids.now) c.args.moment.millis) _ _ _ _ (tasks c.args.jobs.now) c.args.order.now c.into_played.result (length c.play.new.runner.players.items)
     (c.play.ensures.jobs ∙ c.in_ok-runner.ensures.jobs ∙ sym (length-map c.args.jobs.now task)) c.into_played.ensures.outcomes (returns-clause-caused g c) (returns-clause-rows g c)
+
+pub returns-clause-lost : goal.returns-clause-lost
+returns-clause-lost g c =
+    lost_so (g.L.Link.faults c.args.link.now) (g.L.Link.faults c.play.new.link) (g.L.Link.pends c.args.link.now) (g.L.Link.pends c.play.new.link) (tasks c.args.jobs.now) c.in_ok-runner.runner.players.items c.play.new.runner.players.items (c.in_ok-runner.ensures.jobs ∙ sym (length-map c.args.jobs.now task)) c.in_ok-runner.ensures.first c.in_ok-runner.ensures.at c.play.ensures.lost
+    c.into_played.result c.into_played.ensures.outcomes c.into_played.ensures.each

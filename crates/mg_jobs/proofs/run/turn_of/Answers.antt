@@ -1,4 +1,4 @@
-use Rattle.std.proofs.Common.{refl, sym, ap, subst, ◌∙◌}
+use Rattle.std.proofs.Common.{inl, inr, refl, sym, ap, subst, ◌∙◌}
 use Rattle.mg_link.specs.Acts.{IsOut, Tickets}
 use Rattle.mg_link.proofs.Onward.{tickets_same}
 use Rattle.mg_players.proofs.Knowing.{turned_not, turned_ready}
@@ -8,6 +8,7 @@ use Rattle.mg_players.proofs.Advancing.{over_turns}
 use Rattle.mg_players.proofs.Drawing.{ended_draws, ended_has}
 use Rattle.mg_players.proofs.JobTelling.{quiet_turn, ready_turn, tells_narrow, tells_same_job}
 use Rattle.mg_players.specs.Headline.{Plays, task_of}
+use Rattle.mg_players.specs.Losses.{JobLost, LosesBy}
 use Rattle.mg_players.specs.Playing.{job_ticket}
 use Rattle.mg_players.specs.Plays.{SentAt, no_move}
 use Rattle.mg_players.specs.Progress.{GoesBy}
@@ -78,7 +79,7 @@ returns-then-has_ended-clause-comes g c = over_turns c.args.player.now (sym c.ha
 
 pub returns-clause-comes : goal.returns-clause-comes
 returns-clause-comes g c = λ calls k last at.
-    let comes = subst (λ (p : Player). GoesBy c.replace_with-gone.result.note p c.replace_with-gone.result.player) c.replace-taken.ensures.value c.replace_with-gone.ensures.1.1.1.1 in
+    let comes = subst (λ (p : Player). GoesBy c.replace_with-gone.result.note p c.replace_with-gone.result.player) c.replace-taken.ensures.value c.replace_with-gone.ensures.1.1.1.1.0 in
     comes calls k last (c.in_ok-ready.ensures.got.at calls k last at)
 
 pub returns-then-has_ended-clause-draws : goal.returns-then-has_ended-clause-draws
@@ -101,3 +102,14 @@ returns-clause-polled g c =
     let gone = c.replace_with-gone.result in
     subst (λ t. PolledNewest gone.note.pended t (job_ticket gone.player) (g.L.Link.awaited c.args.link.now) (g.L.Link.awaited link) (g.L.Link.log c.args.link.now) (g.L.Link.log link) (g.L.Link.polls c.args.link.now) (g.L.Link.polls link)) (ap job_ticket c.replace-taken.ensures.value ∙ c.in_ok-ready.ensures.got.ticket)
     c.replace_with-gone.ensures.1.1.1.0
+
+pub returns-then-has_ended-clause-lost : goal.returns-then-has_ended-clause-lost
+returns-then-has_ended-clause-lost g c = λ part lost. inl lost
+
+pub returns-in_err-ready-clause-lost : goal.returns-in_err-ready-clause-lost
+returns-in_err-ready-clause-lost g c = λ part lost. inl (c.ready.ensures.got.lost_same part lost)
+
+pub returns-clause-lost : goal.returns-clause-lost
+returns-clause-lost g c = λ part lost.
+    let h = subst (λ (p : Player). LosesBy JobLost (g.L.Link.faults c.args.link.now) (g.L.Link.faults c.replace_with-gone.new.dest) (g.L.Link.pends c.args.link.now) (g.L.Link.pends c.replace_with-gone.new.dest) p c.replace_with-gone.result.player) c.replace-taken.ensures.value c.replace_with-gone.ensures.1.1.1.1.1 in
+    elim (h part lost) [ inl was ↦ inl (c.in_ok-ready.ensures.got.lost_same part was) | inr rose ↦ inr rose ]

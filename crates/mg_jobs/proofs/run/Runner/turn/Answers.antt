@@ -10,6 +10,7 @@ use Rattle.mg_players.proofs.Apart.{apart_as, on_err, same_at, same_job, same_jo
 use Rattle.mg_players.proofs.Knowing.{knowing_on, tasks_after}
 use Rattle.mg_players.proofs.Advancing.{at_after}
 use Rattle.mg_players.proofs.Drawing.{drawn_on}
+use Rattle.mg_players.proofs.Losing.{all_lose_at, none_lose}
 use Rattle.mg_jobs.proofs.Waiting.{held_turn}
 use Rattle.mg_jobs.proofs.Polling.{polls_turn}
 use Rattle.mg_jobs.proofs.Told.{all_turn, tell_as}
@@ -159,3 +160,23 @@ returns-clause-polled g c =
           polls_turn supply (g.I.IdSource.ids c.args.ids.now) (g.L.Link.awaited c.args.link.now) (g.L.Link.log c.args.link.now) (g.L.Link.log c.turn_of.new.link) (g.L.Link.wire c.args.link.now) ts order c.args.self.now.turns.items c.args.self.now.players.items c.args.job c.index_mut-player.result.now c.in_ok-note.note
           (g.L.Link.polls c.args.link.now) (g.L.Link.polls c.turn_of.new.link) begun at c.in_ok-note.ensures.noted.starts all drawn tell c.in_ok-note.ensures.polled.polled,
     )
+
+pub returns-then-at-len-clause-lost : goal.returns-then-at-len-clause-lost
+returns-then-at-len-clause-lost g c = none_lose (g.L.Link.faults c.args.link.now) (g.L.Link.faults c.args.link.now) (g.L.Link.pends c.args.link.now) (g.L.Link.pends c.args.link.now) c.args.self.now.players.items
+
+pub returns-in_err-reserve-clause-lost : goal.returns-in_err-reserve-clause-lost
+returns-in_err-reserve-clause-lost g c = none_lose (g.L.Link.faults c.args.link.now) (g.L.Link.faults c.args.link.now) (g.L.Link.pends c.args.link.now) (g.L.Link.pends c.args.link.now) c.args.self.now.players.items
+
+pub returns-in_err-note-clause-lost : goal.returns-in_err-note-clause-lost
+returns-in_err-note-clause-lost g c =
+    let ok = c.args.self.now.players.ok.0 in
+    let within : c.args.job < length c.args.self.now.players.items = omega (arith, c.len.ensures, c.if-at-len.false) in
+    let at = slice_get_read c.args.self.now.players.items (length c.args.self.now.players.items) c.args.job c.index_mut-player.result.now refl within c.index_mut-player.ensures.value in
+    all_lose_at (g.L.Link.faults c.args.link.now) (g.L.Link.faults c.turn_of.new.link) (g.L.Link.pends c.args.link.now) (g.L.Link.pends c.turn_of.new.link) c.args.self.now.players.items c.args.job c.index_mut-player.result.now c.turn_of.new.player at c.turn_of.ensures.lost
+
+pub returns-clause-lost : goal.returns-clause-lost
+returns-clause-lost g c =
+    let ok = c.args.self.now.players.ok.0 in
+    let within : c.args.job < length c.args.self.now.players.items = omega (arith, c.len.ensures, c.if-at-len.false) in
+    let at = slice_get_read c.args.self.now.players.items (length c.args.self.now.players.items) c.args.job c.index_mut-player.result.now refl within c.index_mut-player.ensures.value in
+    all_lose_at (g.L.Link.faults c.args.link.now) (g.L.Link.faults c.turn_of.new.link) (g.L.Link.pends c.args.link.now) (g.L.Link.pends c.turn_of.new.link) c.args.self.now.players.items c.args.job c.index_mut-player.result.now c.turn_of.new.player at c.turn_of.ensures.lost

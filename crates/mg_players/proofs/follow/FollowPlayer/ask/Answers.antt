@@ -1,4 +1,4 @@
-use Rattle.std.proofs.Common.{None, ap, refl, length, length-append, true, ◌∷◌, [], ◌∙◌}
+use Rattle.std.proofs.Common.{None, ap, inl, refl, length, length-append, true, ◌∷◌, [], ◌∙◌}
 use Rattle.mg_change.specs.ClientStreams.{stream_ticket}
 use Rattle.mg_change.specs.Following.{event_told}
 use Rattle.mg_change.specs.StreamView.{stream_of}
@@ -12,6 +12,9 @@ use Rattle.mg_players.proofs.Telling.{call_answers_tells, call_waits_tells}
 use Rattle.mg_players.specs.Follows.{same_place}
 use Rattle.mg_players.specs.Progress.{came}
 use Rattle.mg_players.specs.Telling.{kept}
+use Rattle.mg_players.specs.Losses.{FollowLost}
+use Rattle.mg_players.specs.declared.follow.FollowPlayer.{FollowPlayer}
+use Rattle.mg_players.proofs.Losing.{answer_loses, loses_on, poll_lost}
 use Rattle.mg_players.proofs.follow.FollowPlayer.ask.Goals as goal
 
 pub go_on-requires-clause-held : goal.go_on-requires-clause-held
@@ -77,3 +80,15 @@ pub returns-in-None-clause-told : goal.returns-in-None-clause-told
 returns-in-None-clause-told g c =
     call_waits_tells _ _ _ _ _ (kept c.args.self.now) c.args.stream c.poll_next_if_any.new.self c.poll_next_if_any.result c.in-None.ensures c.requires.sound c.poll_next_if_any.ensures.sound
     (waits_held _ _ _ c.poll_next_if_any.result c.in-None.ensures c.poll_next_if_any.ensures.keeps.pended) c.poll_next_if_any.ensures.does c.poll_next_if_any.ensures.caused
+
+-- ---- what it says of lost replies
+
+pub returns-in-Some-clause-lost : goal.returns-in-Some-clause-lost
+returns-in-Some-clause-lost g c =
+    let keeps = c.poll_next_if_any.ensures.keeps in
+    loses_on (λ (p : FollowPlayer). FollowLost p.opened p.answers.items p.closed) (g.L.Link.faults c.args.link.now) (g.L.Link.faults c.poll_next_if_any.new.link) (g.L.Link.faults c.go_on.new.link) (g.L.Link.pends c.args.link.now) (g.L.Link.pends c.poll_next_if_any.new.link) (g.L.Link.pends c.go_on.new.link) c.args.self.now c.take.new.self c.go_on.new.self keeps.later.faults c.go_on.ensures.later.faults keeps.later.pends c.go_on.ensures.later.pends
+    (answer_loses (g.L.Link.faults c.args.link.now) (g.L.Link.faults c.poll_next_if_any.new.link) (g.L.Link.pends c.args.link.now) (g.L.Link.pends c.poll_next_if_any.new.link) c.args.self.now c.take.new.self c.in-Some.answer c.take.ensures.answers (poll_lost (g.L.Link.faults c.args.link.now) (g.L.Link.faults c.poll_next_if_any.new.link) c.poll_next_if_any.result c.in-Some.answer c.in-Some.ensures.2 keeps.lost) c.take.ensures.opened c.take.ensures.closed)
+    c.go_on.ensures.lost
+
+pub returns-in-None-clause-lost : goal.returns-in-None-clause-lost
+returns-in-None-clause-lost g c = λ part lost. inl lost

@@ -4,6 +4,7 @@ use Rattle.mg_link.specs.declared.error.Error.{Error}
 use Rattle.mg_change.specs.ClientOpenings.{ClientOpening, opening_ticket}
 use Rattle.mg_change.specs.ClientStreams.{Asks}
 use Rattle.mg_change.specs.Following.{AsksNothing}
+use Rattle.mg_cursor.proofs.Hearing.{no_room}
 use Rattle.mg_players.specs.Follows.{IsFailed, same_place}
 use Rattle.mg_players.specs.Playing.{stage_ticket}
 use Rattle.mg_players.specs.declared.follow.Stage.TheVariants as stage
@@ -13,6 +14,8 @@ use Rattle.mg_players.proofs.Watched.{args_ask, args_ask_nothing}
 use Rattle.mg_players.proofs.Advancing.{begins_open, never_open}
 use Rattle.mg_players.proofs.Telling.{begin_fails, begin_tells}
 use Rattle.mg_players.specs.Telling.{IsWatchArgs, kept}
+use Rattle.mg_script.specs.declared.outcome.Ended.TheVariants as ended
+use Rattle.mg_players.proofs.Losing.{opened_loses}
 use Rattle.mg_players.proofs.follow.FollowPlayer.begin.Goals as goal
 
 pub open-requires-clause-held : goal.open-requires-clause-held
@@ -57,3 +60,10 @@ returns-in-Ok-clause-comes g c = begins_open _ _ c.new.result _ _ _ (ap opening_
 
 pub returns-in-Err-clause-comes : goal.returns-in-Err-clause-comes
 returns-in-Err-clause-comes g c = never_open _ _ stage.Unopened _ _ (λ calls k last at. at.0) refl (subst (λ o. IsFailed o) (sym c.note.ensures) tt) refl refl refl
+
+pub returns-in-Ok-clause-lost : goal.returns-in-Ok-clause-lost
+returns-in-Ok-clause-lost g c = λ part lost. c.open.ensures.lost part lost
+
+pub returns-in-Err-clause-lost : goal.returns-in-Err-clause-lost
+returns-in-Err-clause-lost g c =
+    opened_loses (g.L.Link.faults c.args.link.now) (g.L.Link.faults c.args.link.now) (g.L.Link.pends c.args.link.now) (g.L.Link.pends c.args.link.now) c.args.self.now (record c.args.self.now { opened = c.note.new.slot }) (ended.Failed c.in-Err.error) c.note.ensures (λ lost. absurd (no_room c.in-Err.error c.in-Err.ensures.err lost)) refl refl

@@ -1,4 +1,4 @@
-use Rattle.std.proofs.Common.{refl, subst, sym}
+use Rattle.std.proofs.Common.{inl, refl, subst, sym}
 use Rattle.mg_link.specs.declared.action.Step.TheVariants as step
 use Rattle.mg_players.proofs.Lasting.{last_for, still_lasts}
 use Rattle.mg_players.proofs.Sending.{closing_grows}
@@ -8,6 +8,8 @@ use Rattle.mg_players.proofs.Advancing.{close_done, close_waits}
 use Rattle.mg_players.specs.Progress.{IsFinished}
 use Rattle.mg_players.proofs.Telling.{close_done_tells, close_fails_tells, close_waits_tells}
 use Rattle.mg_players.specs.Telling.{kept}
+use Rattle.mg_script.specs.declared.outcome.Ended.TheVariants as ended
+use Rattle.mg_players.proofs.Losing.{closed_loses}
 use Rattle.mg_players.proofs.follow.FollowPlayer.close.Goals as goal
 
 pub returns-in-Pending-clause-holds : goal.returns-in-Pending-clause-holds
@@ -51,3 +53,13 @@ returns-in-Done-clause-told g c = close_done_tells _ _ _ _ _ (kept c.args.self.n
 
 pub returns-in-Failed-clause-told : goal.returns-in-Failed-clause-told
 returns-in-Failed-clause-told g c = close_fails_tells _ _ _ _ _ (kept c.args.self.now) _ c.args.closing c.in-Failed.error c.note-in-Failed.ensures c.requires.holds c.in-Failed.ensures.closes
+
+pub returns-in-Pending-clause-lost : goal.returns-in-Pending-clause-lost
+returns-in-Pending-clause-lost g c = λ part lost. inl lost
+
+pub returns-in-Done-clause-lost : goal.returns-in-Done-clause-lost
+returns-in-Done-clause-lost g c = closed_loses (g.L.Link.faults c.args.link.now) (g.L.Link.faults c.poll.new.link) (g.L.Link.pends c.args.link.now) (g.L.Link.pends c.poll.new.link) c.args.self.now (record c.args.self.now { closed = c.note.new.slot }) (ended.Gave tt) c.note.ensures (λ lost. absurd lost) refl refl
+
+pub returns-in-Failed-clause-lost : goal.returns-in-Failed-clause-lost
+returns-in-Failed-clause-lost g c =
+    closed_loses (g.L.Link.faults c.args.link.now) (g.L.Link.faults c.poll.new.link) (g.L.Link.pends c.args.link.now) (g.L.Link.pends c.poll.new.link) c.args.self.now (record c.args.self.now { closed = c.note-in-Failed.new.slot }) (ended.Failed c.in-Failed.error) c.note-in-Failed.ensures (λ lost. c.in-Failed.ensures.lost lost) refl refl

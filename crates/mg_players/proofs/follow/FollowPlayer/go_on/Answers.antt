@@ -1,4 +1,4 @@
-use Rattle.std.proofs.Common.{◌≡◌, ℕ, Option, Some, None, ap, arith, refl, subst, sym, ◌∙◌}
+use Rattle.std.proofs.Common.{◌≡◌, ℕ, Option, Some, None, ap, arith, inl, refl, subst, sym, ◌∙◌}
 use Rattle.mg_link.specs.Acts.{Tickets}
 use Rattle.mg_change.specs.ClosingStreams.{ClosingStream, handed_over}
 use Rattle.mg_change.specs.StreamView.{stream_of}
@@ -77,3 +77,9 @@ returns-clause-told g c =
     let is = c.handed.ensures.gone ∙ ap (handed_over left) c.close-closing.ensures.closed in
     let token = c.handed.ensures.token ∙ ap (λ (k : ClosingStream). k.token) c.close-closing.ensures.closed in
     rest_closes_tells _ _ _ _ _ (stream_of c.args.stream) c.close-closing.result.lent left (kept c.args.self.now) c.handed.result c.handed.new.closing _ _ is c.requires.rests token c.close.ensures.told
+
+pub returns-then-self-gt0-clause-lost : goal.returns-then-self-gt0-clause-lost
+returns-then-self-gt0-clause-lost g c = λ part lost. inl lost
+
+pub returns-clause-lost : goal.returns-clause-lost
+returns-clause-lost g c = λ part lost. c.close.ensures.lost part lost

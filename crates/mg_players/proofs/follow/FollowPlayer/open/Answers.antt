@@ -1,4 +1,4 @@
-use Rattle.std.proofs.Common.{None, refl, subst, sym, true}
+use Rattle.std.proofs.Common.{None, inl, refl, subst, sym, true}
 use Rattle.mg_link.specs.declared.action.Step.TheVariants as step
 use Rattle.mg_link.proofs.Onward.{tickets_on}
 use Rattle.mg_change.specs.OpeningView.{opening_of}
@@ -14,6 +14,10 @@ use Rattle.mg_players.proofs.Telling.{open_done_tells, open_fails_tells, open_wa
 use Rattle.mg_players.specs.Progress.{came}
 use Rattle.mg_players.specs.Telling.{kept}
 use Rattle.mg_players.specs.Follows.{HasGiven, IsFailed, same_place}
+use Rattle.mg_players.specs.Losses.{FollowLost}
+use Rattle.mg_players.specs.declared.follow.FollowPlayer.{FollowPlayer}
+use Rattle.mg_script.specs.declared.outcome.Ended.TheVariants as ended
+use Rattle.mg_players.proofs.Losing.{loses_on, opened_loses}
 use Rattle.mg_players.proofs.follow.FollowPlayer.open.Goals as goal
 
 pub returns-in-Pending-clause-holds : goal.returns-in-Pending-clause-holds
@@ -105,3 +109,18 @@ returns-in-Done-clause-comes g c = open_goes _ _ _ c.args.opening (came c.args.s
 
 pub returns-in-Failed-clause-comes : goal.returns-in-Failed-clause-comes
 returns-in-Failed-clause-comes g c = never_open _ _ (stage.Opens c.args.opening) _ _ (λ calls k last at. at.0) c.in-Failed.ensures.pended (subst (λ o. IsFailed o) (sym c.note-in-Failed.ensures) tt) refl refl refl
+
+-- ---- what it says of lost replies
+
+pub returns-in-Pending-clause-lost : goal.returns-in-Pending-clause-lost
+returns-in-Pending-clause-lost g c = λ part lost. inl lost
+
+pub returns-in-Done-clause-lost : goal.returns-in-Done-clause-lost
+returns-in-Done-clause-lost g c =
+    let mid = record c.args.self.now { opened = c.note.new.slot; alive = c.is_alive-self.result } in
+    loses_on (λ (p : FollowPlayer). FollowLost p.opened p.answers.items p.closed) (g.L.Link.faults c.args.link.now) (g.L.Link.faults c.poll.new.link) (g.L.Link.faults c.go_on.new.link) (g.L.Link.pends c.args.link.now) (g.L.Link.pends c.poll.new.link) (g.L.Link.pends c.go_on.new.link) c.args.self.now mid c.go_on.new.self c.in-Done.ensures.later.faults c.go_on.ensures.later.faults c.in-Done.ensures.later.pends c.go_on.ensures.later.pends
+    (opened_loses (g.L.Link.faults c.args.link.now) (g.L.Link.faults c.poll.new.link) (g.L.Link.pends c.args.link.now) (g.L.Link.pends c.poll.new.link) c.args.self.now mid (ended.Gave tt) c.note.ensures (λ lost. absurd lost) refl refl) c.go_on.ensures.lost
+
+pub returns-in-Failed-clause-lost : goal.returns-in-Failed-clause-lost
+returns-in-Failed-clause-lost g c =
+    opened_loses (g.L.Link.faults c.args.link.now) (g.L.Link.faults c.poll.new.link) (g.L.Link.pends c.args.link.now) (g.L.Link.pends c.poll.new.link) c.args.self.now (record c.args.self.now { opened = c.note-in-Failed.new.slot }) (ended.Failed c.in-Failed.error) c.note-in-Failed.ensures (λ lost. c.in-Failed.ensures.lost lost) refl refl

@@ -1,7 +1,8 @@
-use Rattle.std.proofs.Common.{◌∙◌, refl, subst, sym}
+use Rattle.std.proofs.Common.{◌∙◌, inl, refl, subst, sym}
 use Rattle.mg_link.specs.Acts.{IsOut}
 use Rattle.mg_players.proofs.Advancing.{closing_goes, stays_ended}
 use Rattle.mg_players.proofs.Going.{follow_comes, follow_goes, staged}
+use Rattle.mg_players.proofs.Losing.{follow_lost}
 use Rattle.mg_players.proofs.Telling.{tells_same}
 use Rattle.mg_players.proofs.Turning.{took_ended}
 use Rattle.mg_players.proofs.Vainly.{vain_ended}
@@ -74,3 +75,18 @@ returns-in-Ended-clause-goes g c =
 pub returns-in-Ended-clause-comes : goal.returns-in-Ended-clause-comes
 returns-in-Ended-clause-comes g c =
     follow_comes c.args.self c.args.self c.args.self _ stage.Ended stage.Ended (sym c.in-Ended.is ∙ c.replace-stage.ensures.value) (staged c.args.self _ _ c.replace-stage.ensures.after) _ _ refl (stays_ended _ _)
+
+pub returns-in-Unopened-clause-lost : goal.returns-in-Unopened-clause-lost
+returns-in-Unopened-clause-lost g c = follow_lost (g.L.Link.faults c.args.link.now) (g.L.Link.faults c.begin-next.new.link) (g.L.Link.pends c.args.link.now) (g.L.Link.pends c.begin-next.new.link) c.args.self c.begin-next.new.self c.moved_to.result c.begin-next.result c.moved_to.ensures (λ part lost. c.begin-next.ensures.lost part lost)
+
+pub returns-in-Opens-clause-lost : goal.returns-in-Opens-clause-lost
+returns-in-Opens-clause-lost g c = follow_lost (g.L.Link.faults c.args.link.now) (g.L.Link.faults c.open-next.new.link) (g.L.Link.pends c.args.link.now) (g.L.Link.pends c.open-next.new.link) c.args.self c.open-next.new.self c.moved_to-in-Opens.result c.open-next.result c.moved_to-in-Opens.ensures (λ part lost. c.open-next.ensures.lost part lost)
+
+pub returns-in-Open-clause-lost : goal.returns-in-Open-clause-lost
+returns-in-Open-clause-lost g c = follow_lost (g.L.Link.faults c.args.link.now) (g.L.Link.faults c.ask-next.new.link) (g.L.Link.pends c.args.link.now) (g.L.Link.pends c.ask-next.new.link) c.args.self c.ask-next.new.self c.moved_to-in-Open.result c.ask-next.result c.moved_to-in-Open.ensures (λ part lost. c.ask-next.ensures.lost part lost)
+
+pub returns-in-Closes-clause-lost : goal.returns-in-Closes-clause-lost
+returns-in-Closes-clause-lost g c = follow_lost (g.L.Link.faults c.args.link.now) (g.L.Link.faults c.close-next.new.link) (g.L.Link.pends c.args.link.now) (g.L.Link.pends c.close-next.new.link) c.args.self c.close-next.new.self c.moved_to-in-Closes.result c.close-next.result c.moved_to-in-Closes.ensures (λ part lost. c.close-next.ensures.lost part lost)
+
+pub returns-in-Ended-clause-lost : goal.returns-in-Ended-clause-lost
+returns-in-Ended-clause-lost g c = λ part lost. inl lost

@@ -3,6 +3,7 @@ use Rattle.mg_players.proofs.Advancing.{same_came}
 use Rattle.mg_players.proofs.Apart.{on_err}
 use Rattle.mg_players.proofs.JobTelling.{follow_teller}
 use Rattle.mg_players.proofs.Knowing.{same_knows}
+use Rattle.mg_players.proofs.Losing.{ready_lost}
 use Rattle.mg_players.specs.Headline.{follow_task}
 use Rattle.mg_players.specs.Playing.{StageHolds, stage_ticket}
 use Rattle.mg_players.specs.Plays.{AnySent}
@@ -19,6 +20,7 @@ returns-clause-got g c =
       at = same_came c.args.self.now c.make_room.new.self same;
       tells = follow_teller AnySent c.args.self.now c.make_room.new.self same;
       has = λ has. has;
+      lost_same = ready_lost c.args.self.now c.make_room.new.self same;
     }
 
 pub returns-clause-same : goal.returns-clause-same

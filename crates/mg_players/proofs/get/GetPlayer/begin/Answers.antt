@@ -1,11 +1,14 @@
 use Rattle.std.proofs.Common.{◌≡◌, ℕ, Option, Some, None, ap, arith, length, subst, sym, ◌∙◌}
 use Rattle.mg_link.specs.Acts.{Tickets}
 use Rattle.mg_link.specs.declared.error.Error.{Error}
+use Rattle.mg_cursor.proofs.Hearing.{no_room, other_kind}
 use Rattle.mg_gridfs.specs.Findings.{ticket_by}
 use Rattle.mg_players.specs.Gets.{gets_ticket}
 use Rattle.mg_players.specs.Telling as tells
 use Rattle.mg_players.proofs.Advancing.{get_begins, get_fails_first}
 use Rattle.mg_players.proofs.GetTurning.{fails_unsent, opening_begins}
+use Rattle.mg_link.specs.declared.error.BadArgument.TheVariants as argument
+use Rattle.mg_link.specs.declared.error.ErrorKind.TheVariants as kind
 use Rattle.mg_players.proofs.get.GetPlayer.begin.Goals as goal
 
 pub open-requires-clause-held : goal.open-requires-clause-held
@@ -39,3 +42,14 @@ returns-in-Ok-clause-comes g c = get_begins _ _ c.in-Ok.opening c.open.result (l
 
 pub returns-in-Err-clause-comes : goal.returns-in-Err-clause-comes
 returns-in-Err-clause-comes g c = get_fails_first _ (length c.args.self.now.bytes.items) c.args.self.now.done c.args.self.now.what.read c.in-Err.error
+
+-- ---- what it says of lost replies
+
+pub returns-then-self-eq0-clause-lost : goal.returns-then-self-eq0-clause-lost
+returns-then-self-eq0-clause-lost g c = λ lost. absurd (other_kind c.plain-error.result (kind.InvalidArgument argument.ReadSize) c.plain-error.ensures (λ bad. cc) lost)
+
+pub returns-in-Ok-clause-lost : goal.returns-in-Ok-clause-lost
+returns-in-Ok-clause-lost g c = λ lost. c.open.ensures.lost lost
+
+pub returns-in-Err-clause-lost : goal.returns-in-Err-clause-lost
+returns-in-Err-clause-lost g c = λ lost. absurd (no_room c.in-Err.error c.in-Err.ensures.err lost)

@@ -6,6 +6,7 @@ use Rattle.mg_players.specs.declared.get.GetStage.TheVariants as gets
 use Rattle.mg_script.specs.declared.outcome.Ended.TheVariants as ended
 use Rattle.mg_players.proofs.Advancing.{fits_none, get_fails_at, get_opened_at, get_rests, get_waits}
 use Rattle.mg_players.proofs.GetTurning.{opening_done, opening_fails, opening_waits}
+use Rattle.mg_players.proofs.Losing.{opens_lost}
 use Rattle.mg_players.proofs.get.GetPlayer.open.Goals as goal
 
 pub returns-in-Pending-clause-holds : goal.returns-in-Pending-clause-holds
@@ -29,7 +30,7 @@ pub returns-in-Pending-clause-turned : goal.returns-in-Pending-clause-turned
 returns-in-Pending-clause-turned g c =
     let p = c.in-Pending.ensures in
     let sound = c.requires.holds.0 in
-    opening_waits _ _ _ _ _ c.args.self.now c.args.opening sound c.requires.holds.1 c.in-Pending.opening (p.sound sound) p.same p.opens (p.caused sound) (p.known sound _)
+    opening_waits _ _ _ _ _ c.args.self.now c.args.opening sound c.requires.holds.1 c.in-Pending.opening p.pended.0 (p.sound sound) p.same p.opens (p.caused sound) (p.known sound _)
 
 pub returns-in-Done-clause-turned : goal.returns-in-Done-clause-turned
 returns-in-Done-clause-turned g c =
@@ -65,3 +66,14 @@ returns-in-Failed-clause-comes g c =
     let first = c.requires.new in
     get_rests (g.L.Link.pends c.args.link.now) (g.L.Link.pends c.poll.new.link) (gets.Opens c.args.opening) (gets.Ended (ended.Failed c.in-Failed.error)) (length job.bytes.items) job.done (length job.bytes.items) job.done job.what.read c.in-Failed.ensures.pended
     (λ k last at. get_fails_at (length job.bytes.items) job.done k job.what.read c.in-Failed.error (at.0 ∙ sym first) (omega (arith, first)) (fits_none (length job.bytes.items) job.done job.what.read at.2))
+
+-- ---- what it says of lost replies
+
+pub returns-in-Pending-clause-lost : goal.returns-in-Pending-clause-lost
+returns-in-Pending-clause-lost g c = λ lost. absurd lost
+
+pub returns-in-Done-clause-lost : goal.returns-in-Done-clause-lost
+returns-in-Done-clause-lost g c = λ lost. absurd (opens_lost c.in-Done.download c.opened.result c.opened.ensures.stage lost)
+
+pub returns-in-Failed-clause-lost : goal.returns-in-Failed-clause-lost
+returns-in-Failed-clause-lost g c = λ lost. c.in-Failed.ensures.lost lost

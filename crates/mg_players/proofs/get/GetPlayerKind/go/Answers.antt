@@ -1,9 +1,12 @@
-use Rattle.std.proofs.Common.{◌∙◌, length, refl, subst, sym}
+use Rattle.std.proofs.Common.{◌∙◌, inl, inr, length, refl, subst, sym}
 use Rattle.mg_link.specs.Acts.{IsOut}
-use Rattle.mg_players.specs.Gets.{FewCalls, GetStageHolds, gets_ticket}
+use Rattle.mg_players.specs.Gets.{FewCalls, GetStageHolds, get_end, gets_ticket}
+use Rattle.mg_players.specs.Losses.{EndLost}
+use Rattle.mg_players.specs.declared.get.GetPlayer.{GetPlayer}
 use Rattle.mg_players.specs.declared.get.GetStage.{GetStage}
 use Rattle.mg_players.specs.declared.get.GetStage.TheVariants as gets
 use Rattle.mg_players.proofs.Advancing.{get_over}
+use Rattle.mg_players.proofs.Losing.{ending_lost}
 use Rattle.mg_players.proofs.GetGoing.{get_comes, get_ended, get_gone}
 use Rattle.mg_players.proofs.get.GetPlayerKind.go.Goals as goal
 
@@ -61,3 +64,19 @@ returns-in-Ended-clause-goes g c = get_ended (g.L.Link.awaited c.args.link.now) 
 
 pub returns-in-Ended-clause-comes : goal.returns-in-Ended-clause-comes
 returns-in-Ended-clause-comes g c = get_comes _ _ c.args.self c.args.self c.moved_to-in-Ended.result (gets.Ended c.in-Ended.ended) (gets.Ended c.in-Ended.ended) (sym c.in-Ended.is ∙ c.replace-stage.ensures.value) c.moved_to-in-Ended.ensures refl (get_over _ (length c.args.self.bytes.items) c.args.self.done c.args.self.what.read c.in-Ended.ended)
+
+-- ---- what it says of lost replies
+
+pub returns-in-Unsent-clause-lost : goal.returns-in-Unsent-clause-lost
+returns-in-Unsent-clause-lost g c = ending_lost (g.L.Link.faults c.args.link.now) (g.L.Link.faults c.begin-next.new.link) (g.L.Link.pends c.args.link.now) (g.L.Link.pends c.begin-next.new.link) (get_end c.args.self.stage) (get_end c.moved_to.result.stage) (λ lost. inr (c.begin-next.ensures.lost (subst (λ (p : GetPlayer). EndLost (get_end p.stage)) c.moved_to.ensures lost)))
+
+pub returns-in-Opens-clause-lost : goal.returns-in-Opens-clause-lost
+returns-in-Opens-clause-lost g c = ending_lost (g.L.Link.faults c.args.link.now) (g.L.Link.faults c.open-next.new.link) (g.L.Link.pends c.args.link.now) (g.L.Link.pends c.open-next.new.link) (get_end c.args.self.stage) (get_end c.moved_to-in-Opens.result.stage) (λ lost. inr (c.open-next.ensures.lost (subst (λ (p : GetPlayer). EndLost (get_end p.stage)) c.moved_to-in-Opens.ensures lost)))
+
+pub returns-in-Reads-clause-lost : goal.returns-in-Reads-clause-lost
+returns-in-Reads-clause-lost g c = ending_lost (g.L.Link.faults c.args.link.now) (g.L.Link.faults c.read-next.new.link) (g.L.Link.pends c.args.link.now) (g.L.Link.pends c.read-next.new.link) (get_end c.args.self.stage) (get_end c.moved_to-in-Reads.result.stage) (λ lost. inr (c.read-next.ensures.lost (subst (λ (p : GetPlayer). EndLost (get_end p.stage)) c.moved_to-in-Reads.ensures lost)))
+
+pub returns-in-Ended-clause-lost : goal.returns-in-Ended-clause-lost
+returns-in-Ended-clause-lost g c =
+    ending_lost (g.L.Link.faults c.args.link.now) (g.L.Link.faults c.args.link.now) (g.L.Link.pends c.args.link.now) (g.L.Link.pends c.args.link.now) (get_end c.args.self.stage) (get_end c.moved_to-in-Ended.result.stage)
+    (λ lost. inl (subst (λ (s : GetStage). EndLost (get_end s)) (sym c.in-Ended.is ∙ c.replace-stage.ensures.value) (subst (λ (p : GetPlayer). EndLost (get_end p.stage)) c.moved_to-in-Ended.ensures lost)))

@@ -14,4 +14,5 @@ returns-clause-got g c = record {
   at = λ calls k last at. at;
   tells = tells_same_job get_task GetSays get_number AnySent c.args.self.now;
   has = λ has. has;
+  lost_same = λ part lost. lost;
 }

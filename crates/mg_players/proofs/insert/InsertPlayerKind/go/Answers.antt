@@ -3,6 +3,8 @@ use Rattle.mg_link.specs.Namespace.{space}
 use Rattle.mg_players.proofs.InsertTelling.{turns_over}
 use Rattle.mg_players.proofs.JobTelling.{insert_turn}
 use Rattle.mg_players.proofs.Knowing.{turned_insert}
+use Rattle.mg_players.proofs.Losing.{ending_lost}
+use Rattle.mg_players.specs.Playing.{end_of}
 use Rattle.mg_players.specs.Plays.{SentAt, no_move}
 use Rattle.mg_players.proofs.insert.InsertPlayerKind.go.Goals as goal
 
@@ -23,3 +25,6 @@ returns-clause-goes g c =
 
 pub returns-clause-comes : goal.returns-clause-comes
 returns-clause-comes g c = c.go.ensures.comes
+
+pub returns-clause-lost : goal.returns-clause-lost
+returns-clause-lost g c = ending_lost (g.L.Link.faults c.args.link.now) (g.L.Link.faults c.go.new.link) (g.L.Link.pends c.args.link.now) (g.L.Link.pends c.go.new.link) (end_of c.args.self.stage) (end_of c.go.result) c.go.ensures.lost

@@ -1,4 +1,4 @@
-use Rattle.std.proofs.Common.{false, refl}
+use Rattle.std.proofs.Common.{false, inl, inr, refl}
 use Rattle.mg_server.proofs.Killing.{plain_stayed}
 use Rattle.mg_players.specs.declared.insert.InsertStage.TheVariants as inserts
 use Rattle.mg_script.specs.declared.outcome.Ended.TheVariants as ended
@@ -56,3 +56,18 @@ returns-in-Done-clause-sends g c = rw c.in-Goes.is (λ at documents. done_sent (
 
 pub returns-in-Failed-clause-sends : goal.returns-in-Failed-clause-sends
 returns-in-Failed-clause-sends g c = rw c.in-Goes.is (λ at documents. fails_sent (g.L.Link.log c.args.link.now) (g.L.Link.log c.poll.new.link) at documents c.in-Goes.inserting c.in-Failed.error c.in-Failed.ensures.sends)
+
+pub returns-in-Unsent-clause-lost : goal.returns-in-Unsent-clause-lost
+returns-in-Unsent-clause-lost g c = λ lost. absurd lost
+
+pub returns-in-Pending-clause-lost : goal.returns-in-Pending-clause-lost
+returns-in-Pending-clause-lost g c = λ lost. absurd lost
+
+pub returns-in-Done-clause-lost : goal.returns-in-Done-clause-lost
+returns-in-Done-clause-lost g c = λ lost. absurd lost
+
+pub returns-in-Failed-clause-lost : goal.returns-in-Failed-clause-lost
+returns-in-Failed-clause-lost g c = λ lost. inr (c.in-Failed.ensures.lost lost)
+
+pub returns-in-Ended-clause-lost : goal.returns-in-Ended-clause-lost
+returns-in-Ended-clause-lost g c = rw c.in-Ended.is (λ lost. inl lost)

@@ -63,3 +63,15 @@ returns-in-Get-clause-goes g c =
 
 pub returns-in-Get-clause-comes : goal.returns-in-Get-clause-comes
 returns-in-Get-clause-comes g c = rw c.in-Get.is c.go-in-Get.ensures.comes
+
+pub returns-in-Insert-clause-lost : goal.returns-in-Insert-clause-lost
+returns-in-Insert-clause-lost g c = rw c.in-Insert.is (λ part lost. c.go.ensures.lost part lost)
+
+pub returns-in-Follow-clause-lost : goal.returns-in-Follow-clause-lost
+returns-in-Follow-clause-lost g c = rw c.in-Follow.is (λ part lost. c.go-in-Follow.ensures.lost part lost)
+
+pub returns-in-Put-clause-lost : goal.returns-in-Put-clause-lost
+returns-in-Put-clause-lost g c = rw c.in-Put.is (λ part lost. c.go-in-Put.ensures.lost part lost)
+
+pub returns-in-Get-clause-lost : goal.returns-in-Get-clause-lost
+returns-in-Get-clause-lost g c = rw c.in-Get.is (λ part lost. c.go-in-Get.ensures.lost part lost)

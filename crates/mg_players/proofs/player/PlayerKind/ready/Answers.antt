@@ -14,6 +14,7 @@ returns-in-Insert-clause-got g c =
       at = h.at;
       tells = record { number_same = h.tells.number_same; tells = h.tells.tells };
       has = h.has;
+      lost_same = λ part lost. h.lost_same part lost;
     })
 
 pub returns-in-Follow-clause-got : goal.returns-in-Follow-clause-got
@@ -27,6 +28,7 @@ returns-in-Follow-clause-got g c =
       at = h.at;
       tells = record { number_same = h.tells.number_same; tells = h.tells.tells };
       has = h.has;
+      lost_same = λ part lost. h.lost_same part lost;
     })
 
 pub returns-in-Put-clause-got : goal.returns-in-Put-clause-got
@@ -40,6 +42,7 @@ returns-in-Put-clause-got g c =
       at = h.at;
       tells = record { number_same = h.tells.number_same; tells = h.tells.tells };
       has = h.has;
+      lost_same = λ part lost. h.lost_same part lost;
     })
 
 pub returns-in-Get-clause-got : goal.returns-in-Get-clause-got
@@ -53,6 +56,7 @@ returns-in-Get-clause-got g c =
       at = h.at;
       tells = record { number_same = h.tells.number_same; tells = h.tells.tells };
       has = h.has;
+      lost_same = λ part lost. h.lost_same part lost;
     })
 
 pub returns-in-Follow-clause-same : goal.returns-in-Follow-clause-same

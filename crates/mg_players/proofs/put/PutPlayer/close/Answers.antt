@@ -1,9 +1,12 @@
-use Rattle.std.proofs.Common.{refl, ◌+◌}
+use Rattle.std.proofs.Common.{refl, ◌+◌, inr, subst}
 use Rattle.mg_gridfs.specs.Uploads.{upload_error, upload_ticket}
 use Rattle.mg_gridfs.specs.UploadView.{upload_of}
+use Rattle.mg_players.specs.Losses.{PutLost}
+use Rattle.mg_players.specs.declared.put.PutPlayer.{PutPlayer}
 use Rattle.mg_players.specs.declared.put.Going.{Going}
 use Rattle.mg_players.specs.declared.put.PutStage.TheVariants as puts
 use Rattle.mg_players.proofs.KeptIds.{kept_twelve}
+use Rattle.mg_players.proofs.Losing.{beside_lost}
 use Rattle.mg_players.proofs.PutDriving.{close_done_comes, close_done_turns, close_fails_turns, close_waits_comes, close_waits_turns, comes_as, failed_pends, fails_comes, turns_as}
 use Rattle.mg_players.proofs.put.PutPlayer.close.Goals as goal
 
@@ -42,3 +45,14 @@ returns-in-Done-clause-comes g c = comes_as _ _ (record c.args.self { stage = pu
 
 pub returns-clause-comes : goal.returns-clause-comes
 returns-clause-comes g c = comes_as _ _ (record c.args.self { stage = puts.Goes c.args.going }) _ _ c.moved_to-in-Failed.ensures (fails_comes c.args.self c.args.going c.in-Failed.error _ _ (failed_pends c.in-Failed.error (upload_error (upload_of c.args.going.upload)) (upload_ticket (upload_of c.poll_close.new.self)) _ _ c.in-Failed.ensures.keeps.pended))
+
+-- ---- what it says of lost replies
+
+pub returns-in-Pending-clause-lost : goal.returns-in-Pending-clause-lost
+returns-in-Pending-clause-lost g c = λ lost. inr (inr c.in-Pending.ensures.keeps.pended.1.0)
+
+pub returns-in-Done-clause-lost : goal.returns-in-Done-clause-lost
+returns-in-Done-clause-lost g c = λ lost. absurd (subst (λ (p : PutPlayer). PutLost p.stage) c.moved_to-in-Done.ensures lost)
+
+pub returns-clause-lost : goal.returns-clause-lost
+returns-clause-lost g c = λ lost. beside_lost _ _ _ _ (upload_error (upload_of c.args.going.upload)) c.in-Failed.error c.in-Failed.ensures.keeps (subst (λ (p : PutPlayer). PutLost p.stage) c.moved_to-in-Failed.ensures lost)

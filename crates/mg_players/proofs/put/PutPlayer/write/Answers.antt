@@ -1,10 +1,12 @@
-use Rattle.std.proofs.Common.{◌+◌, ℕ, ap, refl, ◌∙◌}
+use Rattle.std.proofs.Common.{◌+◌, ℕ, ap, refl, ◌∙◌, inr, subst}
 use Rattle.mg_gridfs.specs.Uploads.{upload_error, upload_ticket}
 use Rattle.mg_gridfs.specs.UploadView.{upload_of}
+use Rattle.mg_players.specs.Losses.{PutLost}
 use Rattle.mg_players.specs.declared.put.Going.{Going}
 use Rattle.mg_players.specs.declared.put.PutPlayer.{PutPlayer}
 use Rattle.mg_players.specs.declared.put.PutStage.TheVariants as puts
 use Rattle.mg_players.proofs.KeptIds.{kept_twelve}
+use Rattle.mg_players.proofs.Losing.{beside_lost, idle_lost}
 use Rattle.mg_players.proofs.PutDriving.{comes_as, failed_pends, fails_comes, turns_as, write_done_comes, write_done_turns, write_fails_turns, write_waits_comes, write_waits_turns}
 use Rattle.mg_players.proofs.put.PutPlayer.write.Goals as goal
 
@@ -46,3 +48,14 @@ returns-in-Wrote-clause-comes g c =
 
 pub returns-clause-comes : goal.returns-clause-comes
 returns-clause-comes g c = comes_as _ _ (record c.args.self { stage = puts.Goes c.args.going }) _ _ c.moved_to-in-Failed.ensures (fails_comes c.args.self c.args.going c.in-Failed.error _ _ (failed_pends c.in-Failed.error (upload_error (upload_of c.args.going.upload)) (upload_ticket (upload_of c.poll_write.new.self)) _ _ c.in-Failed.ensures.keeps.pended))
+
+-- ---- what it says of lost replies
+
+pub returns-in-Pending-clause-lost : goal.returns-in-Pending-clause-lost
+returns-in-Pending-clause-lost g c = λ lost. inr (inr c.in-Pending.ensures.keeps.pended.1.0)
+
+pub returns-in-Wrote-clause-lost : goal.returns-in-Wrote-clause-lost
+returns-in-Wrote-clause-lost g c = λ lost. absurd (idle_lost (upload_of c.poll_write.new.self) c.in-Wrote.ensures.leaves.0 (subst (λ (p : PutPlayer). PutLost p.stage) c.moved_to-in-Wrote.ensures lost))
+
+pub returns-clause-lost : goal.returns-clause-lost
+returns-clause-lost g c = λ lost. beside_lost _ _ _ _ (upload_error (upload_of c.args.going.upload)) c.in-Failed.error c.in-Failed.ensures.keeps (subst (λ (p : PutPlayer). PutLost p.stage) c.moved_to-in-Failed.ensures lost)

@@ -1,9 +1,12 @@
-use Rattle.std.proofs.Common.{◌∙◌, ap, length, refl, subst, sym}
+use Rattle.std.proofs.Common.{◌∙◌, ap, inl, length, refl, subst, sym}
 use Rattle.mg_link.specs.Acts.{IsOut}
 use Rattle.mg_script.specs.Plan.{pieces}
 use Rattle.mg_players.specs.Puts.{PutStageHolds, puts_ticket, writes}
 use Rattle.mg_players.specs.declared.put.PutStage.{PutStage}
 use Rattle.mg_players.specs.declared.put.PutStage.TheVariants as puts
+use Rattle.mg_players.proofs.Losing.{opening_lost, put_lost}
+use Rattle.mg_players.specs.Losses.{StoringLost}
+use Rattle.mg_players.specs.declared.put.PutPlayer.{PutPlayer}
 use Rattle.mg_players.proofs.PutDriving.{comes_as, turns_as}
 use Rattle.mg_players.proofs.PutGoing.{at_stage, ended_comes, opening_comes, put_comes, put_goes, put_same, undrawn_comes}
 use Rattle.mg_players.proofs.PutOpening.{opening_turns}
@@ -44,3 +47,20 @@ returns-in-Ended-clause-goes g c =
 pub returns-in-Ended-clause-comes : goal.returns-in-Ended-clause-comes
 returns-in-Ended-clause-comes g c =
     ended_comes _ c.args.self c.moved_to-in-Ended.result c.in-Ended.ended (sym c.in-Ended.is ∙ c.replace.ensures.value) (c.moved_to-in-Ended.ensures ∙ at_stage c.args.self (puts.Ended c.in-Ended.ended) (sym c.in-Ended.is ∙ c.replace.ensures.value))
+
+-- ---- what it says of lost replies
+
+pub returns-in-Undrawn-clause-lost : goal.returns-in-Undrawn-clause-lost
+returns-in-Undrawn-clause-lost g c = λ part lost. inl (subst (λ (s : PutStage). StoringLost s part) (c.replace.ensures.after ∙ sym c.in-Undrawn.is ∙ c.replace.ensures.value) lost)
+
+pub returns-in-Begins-clause-lost : goal.returns-in-Begins-clause-lost
+returns-in-Begins-clause-lost g c = λ part lost.
+    put_lost (g.L.Link.faults c.args.link.now) (g.L.Link.faults c.args.link.now) (g.L.Link.pends c.args.link.now) (g.L.Link.pends c.args.link.now) c.args.self.stage (puts.Begins c.in-Begins.begun) c.opening-next.result (sym c.in-Begins.is ∙ c.replace.ensures.value) (λ h. inl (opening_lost (writes c.args.self.what) c.in-Begins.begun c.opening-next.result c.opening-next.ensures h)) part
+    (subst (λ (p : PutPlayer). StoringLost p.stage part) c.moved_to.ensures lost)
+
+pub returns-in-Goes-clause-lost : goal.returns-in-Goes-clause-lost
+returns-in-Goes-clause-lost g c = put_lost (g.L.Link.faults c.args.link.now) (g.L.Link.faults c.go_on.new.link) (g.L.Link.pends c.args.link.now) (g.L.Link.pends c.go_on.new.link) c.args.self.stage (puts.Goes c.in-Goes.going) c.go_on.result.stage (sym c.in-Goes.is ∙ c.replace.ensures.value) c.go_on.ensures.lost
+
+pub returns-in-Ended-clause-lost : goal.returns-in-Ended-clause-lost
+returns-in-Ended-clause-lost g c = λ part lost.
+    inl (subst (λ (p : PutPlayer). StoringLost p.stage part) (c.moved_to-in-Ended.ensures ∙ at_stage c.args.self (puts.Ended c.in-Ended.ended) (sym c.in-Ended.is ∙ c.replace.ensures.value)) lost)

@@ -6,6 +6,7 @@ use Rattle.mg_players.specs.Progress.{PutReady}
 use Rattle.mg_players.specs.Puts.{PutStageHolds, writes}
 use Rattle.mg_players.specs.Telling.{PutTells, put_number}
 use Rattle.mg_players.specs.declared.put.Written.{Written}
+use Rattle.mg_players.proofs.Losing.{drew_lost}
 use Rattle.mg_players.proofs.PutReady.{drew_at, drew_holds, drew_knows, drew_number, drew_tells, drew_ticket}
 use Rattle.mg_players.proofs.put.PutPlayerKind.ready.Goals as goal
 
@@ -34,4 +35,5 @@ returns-clause-got g c =
             (subst (λ (d : ℕ). PutTells awaited calls wire q (supply_from supply n) t d new.stage) (sym same.1) (drew_tells ids t awaited calls wire q (supply_from supply n) old.done old.stage new.stage may drew told));
       };
       has = same.2;
+      lost_same = drew_lost ids t old.stage new.stage drew;
     }
