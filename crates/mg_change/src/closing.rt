@@ -493,9 +493,12 @@ impl Closing {
 impl Action for Closing {
     type Output = ();
 
-    ghost use Rattle.mg_change.specs.ClosingStreams.{stream_closing_ticket};
+    ghost use Rattle.mg_change.specs.ClosingCauses.{ClosingCaused};
+    ghost use Rattle.mg_change.specs.ClosingStreams.{ClosesStream, stream_closing_ticket};
 
     ghost ticket = { stream_closing_ticket };
+
+    ghost does = { λ old new log log' wire s r. ClosesStream old new log log' wire s r × ClosingCaused old new log log' wire s r };
 
     fn poll<L: Link>(self, link: &mut L) -> Step<Closing, ()>
         requires { IsOut (L.awaited link.old) (stream_closing_ticket self) }

@@ -54,9 +54,17 @@ impl<T> Opening<T> {
 impl<T> Action for Opening<T> {
     type Output = ChangeStream<T>;
 
-    ghost use Rattle.mg_change.specs.OpeningView.{ticket_in};
+    ghost use Rattle.std.specs.Prelude.{Bool, None};
+    ghost use Rattle.mg_change.specs.ClientOpenings.{KeepsOpening, OpensStream, seen_step};
+    ghost use Rattle.mg_change.specs.OpeningCauses.{OpeningCaused};
+    ghost use Rattle.mg_change.specs.OpeningView.{IsPlainOpening, opening_of, ticket_in};
+    ghost use Rattle.mg_change.specs.StreamView.{IsPlainStream, stream_of};
 
     ghost ticket = { ticket_in };
+
+    ghost does = { λ old new log log' wire s r. (IsPlainOpening s → KeepsOpening IsPlainOpening IsPlainStream r)
+        × (IsPlainOpening s → (started : Bool) × OpensStream old new log log' wire None started (opening_of s) (seen_step opening_of stream_of r))
+        × (IsPlainOpening s → OpeningCaused old new log log' wire None (opening_of s) (seen_step opening_of stream_of r)) };
 
     fn poll<L: Link>(self, link: &mut L) -> Step<Opening<T>, ChangeStream<T>>
         requires { IsOut (L.awaited link.old) (ticket_in self) }

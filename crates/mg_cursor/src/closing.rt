@@ -168,9 +168,11 @@ impl Closing {
 impl Action for Closing {
     type Output = ();
 
-    ghost use Rattle.mg_cursor.specs.Closing.{closing_ticket};
+    ghost use Rattle.mg_cursor.specs.Closing.{ClosingCaused, ClosingPolls, closing_ticket};
 
     ghost ticket = { closing_ticket };
+
+    ghost does = { λ old new log log' wire s r. ClosingPolls old new log log' wire s r × ClosingCaused old new log log' wire s r };
 
     fn poll<L: Link>(self, link: &mut L) -> Step<Closing, ()>
         requires { IsOut (L.awaited link.old) (closing_ticket self) }
