@@ -5,6 +5,7 @@ pub mod Storing
 pub mod Driving
 pub mod Polled
 pub mod Holding
+pub mod Behind
 pub mod Between
 pub mod Caused
 pub mod Answered

@@ -1,21 +1,21 @@
 -- Laws of files.
-use Rattle.std.specs.Prelude.{◌≡◌, ◌⊎◌, ◌<◌, ◌≤◌, ◌*◌, ◌++◌, ℕ, ℤ, codes, false, not, List, [], length, Option, Some, slice_get, Ok}
+use Rattle.std.specs.Prelude.{◌≡◌, ◌⊎◌, ◌<◌, ◌≤◌, ◌*◌, ◌++◌, ℕ, ℤ, codes, false, not, List, [], length, Option, Some, slice_get, take, Ok}
 use Rattle.std.specs.List.{filter}
 use Rattle.mg_bson.specs.Raw.{fields}
 use Rattle.mg_bson.specs.Tree.{Fields, Tree}
-use Rattle.mg_server.specs.Calls.{past_of}
+use Rattle.mg_server.specs.Calls.{IsOwn, Past, past_of}
 use Rattle.mg_server.specs.Commands.{asked, told}
 use Rattle.mg_link.specs.Exec.{Sending}
 use Rattle.mg_link.specs.Chunks.{chunked}
 use Rattle.mg_server.specs.Files.{AreChunks, Bucket, IsWhole, has_value, file_of}
-use Rattle.mg_server.specs.Filing.{HasDeleted, HasInserted, OthersLeave, part}
+use Rattle.mg_server.specs.Filing.{HasDeleted, HasInserted, IsOwnStep, OthersLeave, part}
 use Rattle.mg_server.specs.Follow.{CameAs}
 use Rattle.mg_server.specs.Filter.{meets}
 use Rattle.mg_server.specs.History.{IsLegal, Step, state_of, step_after, told_at}
 use Rattle.mg_link.specs.Link.{Awaited}
 use Rattle.mg_link.specs.Log.{Call}
 use Rattle.mg_link.specs.Namespace.{Space}
-use Rattle.mg_server.specs.Owner.{IsOf, Onward, nobody}
+use Rattle.mg_server.specs.Owner.{IsGrown, IsOf, Onward, nobody}
 use Rattle.mg_server.specs.Standing.{Stands}
 use Rattle.mg_server.specs.State.{State, is_space}
 use Rattle.mg_server.specs.Step.{May, documents_of}
@@ -86,6 +86,31 @@ pub record UploadStores (awaited : Awaited) (calls : List Call) (wire : ℤ) (pl
       → (history : List Step) → IsLegal history → Stands calls history → OthersLeave (past_of places (length calls) calls wire) history at u.aim.id
       → (position : ℕ) (step : Step) → CameAs calls history (awaited ticket) position step → HasInserted (told (asked sending.command) step.reply) → IsWhole (state_of history) at u.aim.id taken u.aim.size
   pub stored_so : IsSize u.aim.size → HasStored (past_of places (length calls) calls wire) at u taken → (history : List Step) → IsLegal history → Stands calls history → OthersLeave (past_of places (length calls) calls wire) history at u.aim.id → IsWhole (state_of history) at u.aim.id taken u.aim.size
+
+-- ---- behind the record
+
+-- A later log: the calls of the earlier one stand in it, and the same of them are the upload's.
+pub record IsLater (past past' : Past) : Type 0 where
+  pub grown : IsGrown past.calls past'.calls
+  pub own : (place : ℕ) → place < length past.calls → IsOwn past place → IsOwn past' place
+  pub only : (place : ℕ) → place < length past.calls → IsOwn past' place → IsOwn past place
+
+-- the step at this position is the upload's newest
+pub record IsNewestStep (past : Past) (position : ℕ) : Type 0 where
+  pub own : IsOwnStep past position
+  pub newest : (other : ℕ) → IsOwnStep past other → other ≤ position
+
+-- behind this position the file is whole, up to the upload's next step
+abbrev pub WholeFrom : Past → List Step → Bucket → ClientUpload → List ℕ → ℕ → Type 0
+WholeFrom past history at u taken position = (upto : ℕ) → position < upto → ((other : ℕ) → IsOwnStep past other → position < other → upto ≤ other) → IsWhole (state_of (take upto history)) at u.aim.id taken u.aim.size
+
+-- Whatever comes later, in every legal history in which the later log stands and nobody else touches the file, it is whole at each position behind the step of its record.
+pub record UploadStaysWhole (awaited : Awaited) (past past' : Past) (at : Bucket) (u : ClientUpload) (taken : List ℕ) : Type 0 where
+  -- So it is while the record is on its way, where the server took its insert, until the upload is to remove its chunks.
+  pub recorded_so : IsBetween u → (sending : Sending) (ending : Ending) → u.doing ≡ busy close (records sending ending) → (ticket : ℕ) → upload_ticket u ≡ Some ticket → KnowsUpload awaited past at u taken → IsLater past past'
+      → (history : List Step) → IsLegal history → Stands past'.calls history → OthersLeave past' history at u.aim.id → (position : ℕ) (step : Step) → CameAs past.calls history (awaited ticket) position step → IsNewestStep past position → HasInserted (told (asked sending.command) step.reply) → WholeFrom past' history at u taken position
+  -- Once the close is done its newest step is that of its record.
+  pub stored_so : HasStored past at u taken → IsLater past past' → (history : List Step) → IsLegal history → Stands past'.calls history → OthersLeave past' history at u.aim.id → (position : ℕ) → IsNewestStep past position → WholeFrom past' history at u taken position
 
 -- ---- removals
 

@@ -1,11 +1,12 @@
 //! What holds of files, for the proofs of callers.
 ghost use Rattle.std.specs.Prelude.{◌<◌, ℕ, ℤ, List};
 ghost use Rattle.mg_server.specs.Files.{Bucket};
+ghost use Rattle.mg_server.specs.Calls.{Past};
 ghost use Rattle.mg_link.specs.Link.{Awaited};
 ghost use Rattle.mg_link.specs.Log.{Call};
 ghost use Rattle.mg_gridfs.specs.Cursors.{CursorsBegin, CursorsGoOn};
 ghost use Rattle.mg_gridfs.specs.DownloadLaws.{AllReceived, CutsAsSized, DownloadReads, DownloadReadsFile, DownloadReadsUntil, DownloadsGoOn};
-ghost use Rattle.mg_gridfs.specs.Laws.{CutsAsCounted, CutsJoin, RecordIsRead, RemovalsAreAlone, UploadBegins, UploadStores, UploadsGoOn, UploadsSettle};
+ghost use Rattle.mg_gridfs.specs.Laws.{CutsAsCounted, CutsJoin, RecordIsRead, RemovalsAreAlone, UploadBegins, UploadStaysWhole, UploadStores, UploadsGoOn, UploadsSettle};
 ghost use Rattle.mg_gridfs.specs.Uploads.{ClientUpload};
 
 /// Full chunks are cut off by themselves. So the chunks of a file hang on its bytes alone, and not on the pieces in which they were
@@ -45,6 +46,12 @@ pub fn cursors_go_on()
 /// record is inserted the whole file, before the reply to that has come and once the close is done.
 pub fn upload_stores()
     ensures { (awaited : Awaited) (calls : List Call) (wire : ℤ) (places : List ℕ) (at : Bucket) (u : ClientUpload) (taken : List ℕ) → UploadStores awaited calls wire places at u taken }
+{}
+
+/// A file that an upload stored is whole at each position behind the step of its record, up to the upload's next step: while the record is
+/// on its way, once the server took its insert, whatever comes of the call; and once the close is done.
+pub fn uploads_stay_whole()
+    ensures { (awaited : Awaited) (past past' : Past) (at : Bucket) (u : ClientUpload) (taken : List ℕ) → UploadStaysWhole awaited past past' at u taken }
 {}
 
 /// The removal of the chunks of a file leaves none of them, and every other document of every collection.

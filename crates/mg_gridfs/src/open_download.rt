@@ -444,9 +444,14 @@ impl OpenDownloadStream {
 impl Action for OpenDownloadStream {
     type Output = GridFsDownloadStream;
 
-    ghost use Rattle.mg_gridfs.specs.DownloadView.{ticket_in};
+    ghost use Rattle.mg_gridfs.specs.DownloadView.{IsSoundBehind, finding_of, opened_as, ticket_in};
+    ghost use Rattle.mg_gridfs.specs.Findings.{IsSoundFinding, Opens};
+    ghost use Rattle.mg_gridfs.specs.ReadCauses.{OpeningCaused};
 
     ghost ticket = { ticket_in };
+
+    ghost does = { λ old new log log' wire s r. Opens old new log log' wire (finding_of s) (opened_as r) × (IsSoundFinding (finding_of s) → IsSoundBehind r)
+        × (IsSoundFinding (finding_of s) → OpeningCaused old new log log' wire (finding_of s) (opened_as r)) };
 
     fn poll<L: Link>(self, link: &mut L) -> Step<OpenDownloadStream, GridFsDownloadStream>
         requires { IsOut (L.awaited link.old) (ticket_in self) }
