@@ -342,7 +342,7 @@ module _ (c : Course) (i : ℕ) (begun calls : List Call) (wire : ℤ) (begun_is
       stops_well f listed e same own (stops.no_batch at told fails) =
           inl (request_room places sent (get_more at fails.session) false TellsNoCursor e (λ bytes is. ap creates (more_asks at told fails.session bytes is)) (λ bytes h success breaks. more_tells at told fails.session bytes h success e breaks) fails.fails)
       stops_well f listed e same own (stops.too_many empty never is) = absurd (never well.history well.legal well.stands well.own (among places sent) well.prompt)
-      stops_well f listed e same own (stops.differs other) =
+      stops_well f listed e same own (stops.differs apart other) =
           absurd (whole_never calls g.at g.id f listed e other well.history well.legal well.stands bytes s.size s.first (suc s.last) s.whole (s.read ∙ ap Ok same) leaves
           (own_between c i calls g sends well.history well.legal well.stands s.first s.last s.is_first s.is_last s.alone 0 listed own))
 

@@ -128,7 +128,7 @@ module _ (history : List Step) (calls : List Call) (wire : ℤ) (legal : IsLegal
   stop_reads g f listed e (stops.not_built at told (inr by)) none = says_only e kind.BsonSerialization by.0 none
   stop_reads g f listed e (stops.no_batch at told fails) none = request_reads (get_more at fails.session) false TellsNoCursor e (λ bytes breaks said. cursor_reads bytes e breaks said) fails.fails none
   stop_reads g f listed e (stops.too_many empty never is) none = says_only e kind.EmptyBatches is none
-  stop_reads g f listed e (stops.differs other) none = let d = other.differ history legal stands in differ_reads f other.count _ e d.2 none
+  stop_reads g f listed e (stops.differs apart other) none = let d = other.differ history legal stands in differ_reads f other.count _ e d.2 none
 
 module _ (c : Course) (i : ℕ) (calls : List Call) (wire : ℤ) (g : GetTask) (bytes : List ℕ) where
   fail_reads : (e : Error) → GetFails c i calls wire g bytes e → (history : List Step) → IsLegal history → Stands calls history → SaysNoDocument e.kind → ⊥

@@ -169,7 +169,7 @@ stops_other past other e (stops.not_built at told (inl bad)) b = absurd (blames_
 stops_other past other e (stops.not_built at told (inr by)) b = absurd (blames_by e kind.BsonSerialization by.0 b)
 stops_other past other e (stops.no_batch at told fails) b = absurd (request_blames past (get_more at fails.session) false TellsNoCursor e (λ bytes breaks. broken_blames (fields bytes) e breaks b) fails.fails b)
 stops_other past other e (stops.too_many empty never is) b = absurd (blames_by e kind.EmptyBatches is b)
-stops_other past other e (stops.differs differ) b = differ
+stops_other past other e (stops.differs apart differ) b = differ
 
 -- it listed the chunks of the file whose record it heard, and they are not what that says
 pub record Blamed (calls : List Call) (wire : ℤ) (q : Places) (g : GetTask) (e : Error) : Type 0 where

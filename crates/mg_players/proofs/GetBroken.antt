@@ -160,7 +160,7 @@ module _ (past : Past) (history : List Step) (legal : IsLegal history) (stands :
   stops_says Other e (stops.not_built at told (inr by)) b = absurd (says_by e kind.BsonSerialization by.0 b)
   stops_says Other e (stops.no_batch at told fails) b = absurd (request_says (get_more at fails.session) false TellsNoCursor ⊥ e (λ bytes h success breaks. more_tells at told e fails.session bytes h success breaks) fails.fails b)
   stops_says Other e (stops.too_many empty never is) b = absurd (says_by e kind.EmptyBatches is b)
-  stops_says Other e (stops.differs other) b = other
+  stops_says Other e (stops.differs apart other) b = other
 
 -- A get that says so found such a record, or chunks that are not what it says.
 pub broke : (calls : List Call) (wire : ℤ) (q : Places) (g : GetTask) (bytes : List ℕ) (done : ℕ) (e : Error) → TellsGetFails calls wire q g bytes done e → SaysBroken e.kind → as_database g.at.db ≡ Some g.at.db → (history : List Step) → IsLegal history → Stands calls history → Broke (sent_at q.now calls wire) history g e ⊎ Blamed calls wire q g e

@@ -27,7 +27,7 @@ use Rattle.mg_gridfs.specs.Downloads.{ClientDownload, Doing, IsAtRest, ended, id
 use Rattle.mg_gridfs.specs.ReadCauses.{TakesNext, by_reply, was_held}
 use Rattle.mg_players.specs.Gets.{GetTask}
 use Rattle.mg_players.specs.InTurn.{AreInTurn, NoneBehind, empty_by, empty_held, empty_taken, empty_with, newest}
-use Rattle.mg_players.specs.Reading.{BreaksAt, CameTo, CountsRow, FailsSo, GivesBy, GivesNone, GoesOn, HeardEmpty, HeardHeld, SentNone, TookThese, as_begun, batches_in, by_batches, ends_so, had_ended, hand_of, memory_out, none_brought, none_built, not_taken, of_batches, of_hand, other_count, taken_of}
+use Rattle.mg_players.specs.Reading.{BreaksAt, CameTo, CountsRow, GivesBy, GivesNone, GoesOn, HeardEmpty, HeardHeld, ReadFailsSo, SentNone, TookThese, as_begun, batches_in, by_batches, ends_so, had_ended, hand_of, memory_out, none_brought, none_built, not_taken, of_batches, of_hand, other_count, taken_of}
 use Rattle.mg_players.proofs.GetReading.{held_grows}
 use Rattle.mg_players.proofs.InTurn.{BatchFrom, HeardLater, NextLater, all_taken, empty_on, from_hand, from_reply, heard_on, more_grows, newest_on, turn_grows}
 use Rattle.mg_players.proofs.JustGrown.{GrowsJust, SendsNoMore, alone_grows, before_or, none_after, none_grows, sent_back}
@@ -94,7 +94,7 @@ module _ (call call' : Past) (just : GrowsJust call call') where
   breaks_grow room d c e (not_taken short bytes behind next empty spoils) = not_taken short bytes behind (next_grows c bytes behind next) empty spoils
   breaks_grow room d c e (other_count none over other is) = other_count none over other is
 
-  pub fails_so_grow : (room : ℕ) (begun : ClientDownload) (e : Error) → FailsSo call room begun e → FailsSo call' room begun e
+  pub fails_so_grow : (room : ℕ) (begun : ClientDownload) (e : Error) → ReadFailsSo call room begun e → ReadFailsSo call' room begun e
   fails_so_grow room begun e f = record { left = f.left; cursor = f.cursor; came = came_grow begun f.left f.cursor f.came; breaks = breaks_grow room f.left f.cursor e f.breaks }
 
 -- ---- as a call begins, and where it waits

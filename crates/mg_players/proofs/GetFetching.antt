@@ -54,8 +54,9 @@ use Rattle.mg_gridfs.proofs.Received.{batch_is, received_behind, reply_documents
 use Rattle.mg_players.specs.Gets.{GetTask, chunks_find}
 use Rattle.mg_players.specs.Reading as stops
 use Rattle.mg_players.specs.InTurn.{empty_with, newest}
-use Rattle.mg_players.specs.Reading.{BreaksAt, CountsRow, FailsSo, HoldChunks, HeardEmpty, HeardHeld, ListsChunks, IsQueried, ListsOther, ReadStops, TakenSo, TookThese, WherePrompt, empties}
+use Rattle.mg_players.specs.Reading.{BreaksAt, CountsRow, HeardEmpty, HeardHeld, HoldChunks, IsQueried, ListsChunks, ListsOther, ReadFailsSo, ReadStops, TakenSo, TookThese, WherePrompt, empties}
 use Rattle.mg_players.proofs.GetCounting.{count_behind, count_of, counts_behind, counts_waiting, few_behind, heard_too_many, none_in_batch, took_all, took_on}
+use Rattle.mg_players.proofs.GetApart.{items_apart, none_apart}
 use Rattle.mg_players.proofs.GetDiffering.{batch_differs}
 use Rattle.mg_players.proofs.GetListing.{batch_there, differs_by, documents_same, documents_there, list_asks, list_step, more_step, told_named}
 use Rattle.mg_players.proofs.GetReading.{held_grows, listed_grow}
@@ -278,7 +279,7 @@ module _ (g : GetTask) (P : List ℕ) (L : ℕ) (wire : ℤ) (bytes : List ℕ) 
       × (all : List (List ℕ)) × CountsRow new (past_of N L calls wire) begun c k all × TakenSo start d' all × (m ≡ size - length d'.ahead)
   FetchStops new calls d d' enough = (c : ClientCursor) × (d'.doing ≡ idle c) × ListsChunks (past_of P L calls wire) g d.file 0 c
       × (all : List (List ℕ)) × TookThese (past_of N L calls wire) begun c all × TakenSo start d' all × ((size ≤ length d'.ahead) ⊎ IsOver c)
-  FetchStops new calls d d' (fails e) = ReadStops (past_of P L calls wire) (HeardEmpty (past_of P L calls wire) (past_of N L calls wire) g d.file start) (ListsOther calls g.at d.file listed e) e × FailsSo (past_of N L calls wire) size start e
+  FetchStops new calls d d' (fails e) = ReadStops (past_of P L calls wire) (HeardEmpty (past_of P L calls wire) (past_of N L calls wire) g d.file start) (ListsOther calls g.at d.file listed e) e × ReadFailsSo (past_of N L calls wire) size start e
 
   pub record FetchStopped (log' : LogTold) (new : Awaited) (d d' : ClientDownload) (f : Fetched) : Type 0 where
     pub calls' : List Call
@@ -381,12 +382,12 @@ module _ (g : GetTask) (P : List ℕ) (L : ℕ) (wire : ℤ) (bytes : List ℕ) 
 
       stops_so : (e : Error) → BatchFrom c behind reply → (e ≡ plain kind.OutOfMemory) ⊎ SpoilsBatch k reply d e → ReadStops (past_of P L p.calls' wire) (HeardEmpty (past_of P L p.calls' wire) (past_of N L p.calls' wire) g d.file start) (ListsOther p.calls' g.at d.file listed e) e
       stops_so e from (inl memory) = stops.no_memory (ap (λ (x : Error). x.kind) memory)
-      stops_so e from (inr (steps.no_batch none)) = stops.differs (none_there e none)
-      stops_so e from (inr (steps.differs batch at bad)) = stops.differs (one_there e batch at bad)
+      stops_so e from (inr (steps.no_batch none)) = stops.differs (none_apart (fields reply) e none) (none_there e none)
+      stops_so e from (inr (steps.differs batch at bad)) = stops.differs (items_apart d.file d.taken batch e bad) (one_there e batch at bad)
       stops_so e from (inr (steps.too_many none many is)) = stops.too_many (many_so from none many) (never_many g (past_of P L p.calls' wire) d.file k c p.lists reply (batch_source c behind reply from) many) is
 
     -- it came so far, and failed there
-    fails_at : (calls' : List Call) → Keeps calls calls' → (e : Error) → BreaksAt (past_of N L calls' wire) size d c e → FailsSo (past_of N L calls' wire) size start e
+    fails_at : (calls' : List Call) → Keeps calls calls' → (e : Error) → BreaksAt (past_of N L calls' wire) size d c e → ReadFailsSo (past_of N L calls' wire) size start e
     fails_at calls' keeps e breaks = record {
       left = d;
       cursor = c;

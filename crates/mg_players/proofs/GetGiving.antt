@@ -1,11 +1,12 @@
 -- What the calls of a get gave, one behind another, goes on to be told, call by call.
-use Rattle.std.proofs.Common.{◌≡◌, ◌<◌, ◌++◌, ℕ, ℤ, List, [], ◌∷◌, length, take, refl, sym, ap, ◌∙◌, subst, arith, append-nil, append_assoc}
+use Rattle.std.proofs.Common.{◌≡◌, ◌<◌, ◌++◌, ℕ, ℤ, List, [], ◌∷◌, length, take, Ok, refl, sym, ap, ◌∙◌, subst, arith, append-nil, append_assoc}
 use Rattle.std.specs.List.{concat}
 use Rattle.std.proofs.lemmas.List.{take-append-le, take_all}
 use Rattle.mg_server.specs.Calls.{Grows, Keeps, Past}
 use Rattle.mg_link.specs.Log.{Call}
 use Rattle.mg_server.specs.Owner.{IsOf}
 use Rattle.mg_cursor.specs.Client.{ClientCursor, new_client}
+use Rattle.mg_chunks.specs.Sizes.{chunk_count_of}
 use Rattle.mg_records.specs.FileRecords.{FileRecord}
 use Rattle.mg_gridfs.specs.Downloads.{ClientDownload, empty_download, new_download}
 use Rattle.mg_gridfs.specs.ReadCauses.{cursor_in}
@@ -22,17 +23,17 @@ use Rattle.mg_players.proofs.Telling.{grows_later, in_first, in_second}
 -- ---- as it was opened
 
 pub begun_grows : (past past' : Past) → Grows past past' → (g : GetTask) (d : ClientDownload) → IsBegun past g d → IsBegun past' g d
-begun_grows past past' grows g d (reading.has_list cursor bytes is holding list) = reading.has_list cursor bytes is holding (list_grow past past' grows g d.file cursor bytes list)
+begun_grows past past' grows g d (reading.has_list cursor bytes is counted holding list) = reading.has_list cursor bytes is counted holding (list_grow past past' grows g d.file cursor bytes list)
 begun_grows past past' grows g d (reading.is_empty none is) = reading.is_empty none is
 
-pub new_begun : (past : Past) (g : GetTask) (d : ClientDownload) → IsNewDownload d → ListsIts past g d → IsBegun past g d
-new_begun past g d (lists_some f count out bytes with is) lists =
+pub new_begun : (past : Past) (g : GetTask) (d : ClientDownload) → IsNewDownload d → chunk_count_of d.file.length d.file.chunk_size ≡ Ok d.count → ListsIts past g d → IsBegun past g d
+new_begun past g d (lists_some f count out bytes with is) counted lists =
     let c : ClientCursor = new_client out in
     let file : d.file ≡ f = ap (λ (x : ClientDownload). x.file) is in
     let many : d.count ≡ count = ap (λ (x : ClientDownload). x.count) is in
-    reading.has_list c out.initial_reply (is ∙ ap (λ (x : FileRecord). new_download x count c) (sym file) ∙ ap (λ (n : ℕ). new_download d.file n c) (sym many)) refl
+    reading.has_list c out.initial_reply (is ∙ ap (λ (x : FileRecord). new_download x count c) (sym file) ∙ ap (λ (n : ℕ). new_download d.file n c) (sym many)) counted refl
     ((lists c (ap (λ (x : ClientDownload). cursor_in x.doing) is)).held out.initial_reply refl).1
-new_begun past g d (has_none f none is) lists =
+new_begun past g d (has_none f none is) counted lists =
     let file : d.file ≡ f = ap (λ (x : ClientDownload). x.file) is in
     reading.is_empty (ap (λ (x : FileRecord). x.length) file ∙ none) (is ∙ ap empty_download (sym file))
 

@@ -117,7 +117,7 @@ module _ (past past' : Past) (grows : Grows past past') where
     stops_grow differ differ' so leads e (not_built at told cannot) = not_built at (told_grow at told) cannot
     stops_grow differ differ' so leads e (no_batch at told fails) = no_batch at (told_grow at told) (fails_grow past past' grows at e fails)
     stops_grow differ differ' so leads e (too_many empty never is) = too_many (so empty) (where_prompt_grow past past' ⊥ grows onward never) is
-    stops_grow differ differ' so leads e (differs other) = differs (leads other)
+    stops_grow differ differ' so leads e (differs apart other) = differs apart (leads other)
 
 -- what was sent at some places was sent at those and more
 pub grows_among : (xs ys : List ℕ) (since : ℕ) (calls : List Call) (wire : ℤ) → ((place : ℕ) → IsOf xs place → IsOf ys place) → Grows (past_of xs since calls wire) (past_of ys since calls wire)

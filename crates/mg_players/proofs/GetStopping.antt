@@ -27,7 +27,8 @@ use Rattle.mg_gridfs.specs.declared.polls.ReadPoll.TheVariants as read
 use Rattle.mg_gridfs.proofs.Downloading.{AfterFetch, doing_known, fetches_known, fetches_same}
 use Rattle.mg_players.specs.Gets.{GetTask}
 use Rattle.mg_players.specs.Reading as stops
-use Rattle.mg_players.specs.Reading.{CameTo, Differ, FailsSo, GivesBy, GoesOn, HeardEmpty, HeardHeld, ListsChunks, ListsIts, ListsOther, ReadStops, SentNone, TakenSo, TookThese, empties, miscounted, of_batches, of_hand, taken_of}
+use Rattle.mg_players.specs.Reading.{CameTo, Differ, GivesBy, GoesOn, HeardEmpty, HeardHeld, ListsChunks, ListsIts, ListsOther, ReadFailsSo, ReadStops, SentNone, TakenSo, TookThese, empties, miscounted, of_batches, of_hand, taken_of}
+use Rattle.mg_players.proofs.GetApart.{missing_apart}
 use Rattle.mg_players.proofs.GetCounting.{counts_begin}
 use Rattle.mg_players.proofs.GetFetching.{FetchStops, StandsAt, fetches_stopped}
 use Rattle.mg_players.proofs.GetListing.{differs_by}
@@ -69,7 +70,7 @@ took_came call b left begun c all idle_so none rests t so = stops.by_batches beg
 abbrev pub ReadLeaves : Awaited → (past call : Past) → List Call → GetTask → FileRecord → ℕ → ℕ → (begun d' : ClientDownload) → List ℕ → ReadPoll → Type 0
 ReadLeaves awaited past call calls g f listed size begun d' given read.Pending = ListsIts past g d' × GoesOn awaited past call g size begun d' d'.doing
 ReadLeaves awaited past call calls g f listed size begun d' given (read.Read n) = ListsIts past g d' × (((n ≡ length given) × GivesBy call size begun d' given) ⊎ ((n ≡ 0) × (begun.doing ≡ ended) × SentNone call))
-ReadLeaves awaited past call calls g f listed size begun d' given (read.Failed e) = ReadStops past (HeardEmpty past call g f begun) (ListsOther calls g.at f listed e) e × FailsSo call size begun e
+ReadLeaves awaited past call calls g f listed size begun d' given (read.Failed e) = ReadStops past (HeardEmpty past call g f begun) (ListsOther calls g.at f listed e) e × ReadFailsSo call size begun e
 
 module _ (awaited : Awaited) (g : GetTask) (listed : ℕ) (past call : Past) (calls : List Call) (b : ClientDownload) where
   -- one cursor
@@ -88,7 +89,7 @@ module _ (awaited : Awaited) (g : GetTask) (listed : ℕ) (past call : Past) (ca
   gives_leaves room c d d' given r f same l differs_so so came (steps.ends none over full is now answer) = subst (ReadLeaves awaited past call calls g f listed room b d' given) (sym answer) (lists_none d' (ap (λ (x : ClientDownload). cursor_in x.doing) now), inl (refl, so (steps.ends none over full is now refl)))
   gives_leaves room c d d' given r f same l differs_so so came (steps.miscounts none over other no_bytes now answer) =
       subst (ReadLeaves awaited past call calls g f listed room b d' given) (sym answer)
-      (stops.differs (differs_so over other (missing_chunk d.taken) refl), record { left = d; cursor = c; came = came; breaks = stops.other_count none over other refl })
+      (stops.differs (missing_apart d.taken) (differs_so over other (missing_chunk d.taken) refl), record { left = d; cursor = c; came = came; breaks = stops.other_count none over other refl })
 
 -- ---- a poll
 

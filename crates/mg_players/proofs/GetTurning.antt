@@ -358,7 +358,7 @@ module _ (old new : Awaited) (log log' : LogTold) (wire : ℤ) (job : GetPlayer)
             opened_last calls' (sent_since q.now (length calls) (length calls')) last,
             record {
               last = d;
-              so_far = record { first = d; begun = begun_grows (past_of q.now (length calls) calls' wire) (sent_at q'.opened calls' wire) (grows_ended q.now (length calls) calls' wire) g d (new_begun (past_of q.now (length calls) calls' wire) g d new_one lists); file = refl; gave = (none, refl) };
+              so_far = record { first = d; begun = begun_grows (past_of q.now (length calls) calls' wire) (sent_at q'.opened calls' wire) (grows_ended q.now (length calls) calls' wire) g d (new_begun (past_of q.now (length calls) calls' wire) g d new_one is_download.between.sound.sizes.counted lists); file = refl; gave = (none, refl) };
               goes = giving_goes new (sent_at (all_places q') calls' wire) (sent_at q'.now calls' wire) g (room_of g.read) d d.doing (new_giving d new_one) (none_yet calls' wire);
             },
             new_ends calls' g.at d given at new_one none,

@@ -19,6 +19,7 @@ pub mod GetReading
 pub mod GetSteps
 pub mod GetJudged
 pub mod GetDiffering
+pub mod GetApart
 pub mod GetBlamed
 pub mod GetBroken
 pub mod GetListing

@@ -50,7 +50,7 @@ use Rattle.mg_ops.specs.InsertCauses.{InsertFails, InsertWaits}
 use Rattle.mg_ops.specs.InsertSends.{InsertPieces}
 use Rattle.mg_script.specs.Plan.{Begin, Task, insert, follow, put, get}
 use Rattle.mg_players.specs.Progress.{pends_last, turns_done}
-use Rattle.mg_players.specs.Reading.{FailsSo, GivesBy, GivesNone, GoesOn, HeardEmpty, HeardHeld, IsBegun, ListsOther, ReadStops}
+use Rattle.mg_players.specs.Reading.{GivesBy, GivesNone, GoesOn, HeardEmpty, HeardHeld, IsBegun, ListsOther, ReadFailsSo, ReadStops}
 use Rattle.mg_script.specs.declared.outcome.Answer.{Answer}
 use Rattle.mg_script.specs.declared.outcome.Answer.TheVariants as answers
 use Rattle.mg_script.specs.declared.outcome.Ended.{Ended}
@@ -321,7 +321,7 @@ pub data GetFails (c : Course) (i : ℕ) (calls : List Call) (wire : ℤ) (g : G
   not_opened : 0 < g.read → (places : List ℕ) → AllSentIn c i 0 places → files.OpeningFails (sent_at places calls wire) (plain_bucket g.at) g.id e → places ≡ places_of c i → GetFails c i calls wire g bytes e
   not_read : 0 < g.read → (d : ClientDownload) (opened : GetOpened c i calls wire g d.file) (k : ℕ) → suc (suc k) ≤ turns_done i c.order c.notes → (places : List ℕ) → AllSentIn c i (suc k) places → (cursor : ClientCursor) → ReadFails (sent_at places calls wire) d cursor e
       → cursor_in d.doing ≡ Some cursor → IsSoundDownload d → AsksPlainly d → (s : GetSent c i calls g (length bytes) opened.places k places)
-      → (last : ClientDownload) → GetStopped c i calls wire g d.file cursor places last e → HasRead calls wire g d.file opened.places s.owns bytes last → FailsSo (sent_at places calls wire) (room_of g.read) last e → GetFails c i calls wire g bytes e
+      → (last : ClientDownload) → GetStopped c i calls wire g d.file cursor places last e → HasRead calls wire g d.file opened.places s.owns bytes last → ReadFailsSo (sent_at places calls wire) (room_of g.read) last e → GetFails c i calls wire g bytes e
 
 -- What a get waits for: the record, or the list of the chunks of the record that was heard, for which all was sent; or more of them.
 pub data GetWaits (awaited : Awaited) (c : Course) (i : ℕ) (calls : List Call) (wire : ℤ) (g : GetTask) (bytes : ℕ) : Type 0 where

@@ -221,7 +221,7 @@ pub record TookThese (call : Past) (begun behind : ClientCursor) (all : List (Li
   pub last : NoneBehind call (newest 0 replies)
 
 -- A call that reads into so much room gave these bytes, and took its download from one state to another: some were in hand, and it sent nothing; or it took
--- batches until as many were as it has room for, or the cursor had ended.
+-- batches, behind which its room was full or the cursor had ended.
 pub data GivesBy (call : Past) (room : ℕ) (d d' : ClientDownload) (given : List ℕ) : Type 0 where
   of_hand : (cursor : ClientCursor) → d.doing ≡ idle cursor → d.ahead ≢ [] → SentNone call → HandsOut room cursor d d' given (read.Read (length given)) → GivesBy call room d d' given
   of_batches : (cursor behind : ClientCursor) (left : ClientDownload) (all : List (List ℕ)) → d.doing ≡ idle cursor → d.ahead ≡ [] → TookThese call cursor behind all → TakenSo d left all → (room ≤ length left.ahead) ⊎ IsOver behind
@@ -247,24 +247,24 @@ pub data BreaksAt (call : Past) (room : ℕ) (d : ClientDownload) (c : ClientCur
   other_count : drop room d.ahead ≡ [] → (HasNext c → ⊥) → d.taken ≢ d.count → e ≡ missing_chunk d.taken → BreaksAt call room d c e
 
 -- How a call failed that began with this download and reads into so much room.
-pub record FailsSo (call : Past) (room : ℕ) (begun : ClientDownload) (e : Error) : Type 0 where
+pub record ReadFailsSo (call : Past) (room : ℕ) (begun : ClientDownload) (e : Error) : Type 0 where
   pub left : ClientDownload
   pub cursor : ClientCursor
   pub came : CameTo call begun left cursor
   pub breaks : BreaksAt call room left cursor e
 
--- a download as its opening left it: the reply to its list is in hand; or its file has no bytes
+-- A download as its opening left it: it awaits as many chunks as the record counts, and the reply to its list is in hand; or its file has no bytes.
 pub data IsBegun (past : Past) (g : GetTask) (d : ClientDownload) : Type 0 where
-  has_list : (cursor : ClientCursor) (bytes : List ℕ) → d ≡ new_download d.file d.count cursor → cursor.doing ≡ holds bytes → IsListOf past g d.file cursor bytes → IsBegun past g d
+  has_list : (cursor : ClientCursor) (bytes : List ℕ) → d ≡ new_download d.file d.count cursor → chunk_count_of d.file.length d.file.chunk_size ≡ Ok d.count → cursor.doing ≡ holds bytes → IsListOf past g d.file cursor bytes → IsBegun past g d
   is_empty : d.file.length ≡ 0 → d ≡ empty_download d.file → IsBegun past g d
 
 -- ---- why a read fails
 
 -- Why a read fails: memory ran out; a getMore is not built, or brings no batch; as many batches came empty as are too many, which is not so where the steps were
--- answered at once; or chunks that stood are not what their record says.
+-- answered at once; or chunks that stood are not what their record says, of which another error tells.
 pub data ReadStops (past : Past) (many differ : Type 0) (e : Error) : Type 0 where
   no_memory : e.kind ≡ kind.OutOfMemory → ReadStops past many differ e
   not_built : (at : ClientCursor) → IsTold past at → CannotAsk at None e → ReadStops past many differ e
   no_batch : (at : ClientCursor) → IsTold past at → MoreFails past at e → ReadStops past many differ e
   too_many : many → WherePrompt past ⊥ → e ≡ plain kind.EmptyBatches → ReadStops past many differ e
-  differs : differ → ReadStops past many differ e
+  differs : (e.kind ≡ kind.EmptyBatches → ⊥) → differ → ReadStops past many differ e

@@ -60,7 +60,7 @@ use Rattle.mg_players.specs.Plays.{Extends, Moves, MovesTo, Places, all_places}
 use Rattle.mg_players.specs.PutFailures.{AnswersPut, PutReads}
 use Rattle.mg_players.specs.PutSends.{DoingSent, PutEndsSent, Reaches}
 use Rattle.mg_players.specs.Puts.{BegunFor, CutBy, DoingSupplied, NeedsFull, PutTask, Supply, put_aim, put_bucket, taken_in, total, writes}
-use Rattle.mg_players.specs.Reading.{EndsAsListed, FailsSo, GivesNone, GoesOn, HeardEmpty, HeardHeld, ListsIts, ListsOther, ReadStops}
+use Rattle.mg_players.specs.Reading.{EndsAsListed, GivesNone, GoesOn, HeardEmpty, HeardHeld, ListsIts, ListsOther, ReadFailsSo, ReadStops}
 use Rattle.mg_players.specs.Sends.{IsCommandOf, MaySend, PutFlies, SendsOnly}
 use Rattle.mg_ops.specs.Underway.{HasInserted}
 use Rattle.mg_script.specs.declared.outcome.Answer.{Answer}
@@ -295,7 +295,7 @@ pub data TellsGetFails (calls : List Call) (wire : ℤ) (q : Places) (g : GetTas
   not_read : 0 < g.read → 1 ≤ done → (d : ClientDownload) (at : Option ℕ) → TellsGetOpened calls wire q g d.file at → (cursor : ClientCursor) → ReadFails (sent_at q.now calls wire) d cursor e
       → cursor_in d.doing ≡ Some cursor → IsSoundDownload d → AsksPlainly d → suc (length q.owns) ≡ done
       → (last : ClientDownload) (listed : ℕ) → IsOf q.opened listed → HeardHeld (sent_at (all_places q) calls wire) g d.file cursor → ReadStops (sent_at (all_places q) calls wire) (HeardEmpty (sent_at (all_places q) calls wire) (sent_at q.now calls wire) g d.file last) (ListsOther calls g.at d.file listed e) e
-      → HasRead calls wire g d.file q.opened q.owns bytes last → FailsSo (sent_at q.now calls wire) (room_of g.read) last e → TellsGetFails calls wire q g bytes done e
+      → HasRead calls wire g d.file q.opened q.owns bytes last → ReadFailsSo (sent_at q.now calls wire) (room_of g.read) last e → TellsGetFails calls wire q g bytes done e
 
 -- All bytes of the file with this record were given, and these are they: its download has ended.
 pub record HasGivenAll (awaited : Awaited) (calls : List Call) (g : GetTask) (f : FileRecord) (bytes : List ℕ) (at : Option ℕ) : Type 0 where

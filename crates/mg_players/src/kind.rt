@@ -95,7 +95,7 @@ pub trait Kind: Sized + Drop {
         requires ready { is_ready self }
         ensures goes { Goes ticket holds task plays tells number has_ids (SentAt moment.millis) (L.awaited link.old) (L.awaited link.new) (L.log link.old) (L.log link.new) (L.wire link.new) self result }
         ensures comes { ComesTo (λ calls k last. ready_at calls self k last) (λ calls k last. at calls result k last) (L.pends link.old) (L.pends link.new) }
-        // It says that a reply was lost only where the link counted a fault.
+        // It says that a reply was lost only where the link counted a fault; of the end of a put, where it did or a reply pended.
         ensures lost { LosesBy says_lost (L.faults link.old) (L.faults link.new) (L.pends link.old) (L.pends link.new) self result }
         ensures later { Later (L.faults link.old) (L.faults link.new) (L.pends link.old) (L.pends link.new)
             (L.wire link.old) (L.wire link.new) (L.prompt link.old) (L.prompt link.new) };
